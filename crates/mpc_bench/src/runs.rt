@@ -13,7 +13,7 @@ use crate::phases::{Phase, Stop};
 use crate::replies::{Answer, replies};
 use mpc_controller::Controller;
 use mpc_plant::{Plant, PlantError, read_plant};
-use mpc_synthesis::{controller_of, decided, grid_points, right_controller};
+use mpc_synthesis::{Alone, controller_of, decided, grid_points, right_controller};
 use mpc_table::Table;
 use mpc_workers::OpenGate;
 use std::alloc::Global;
@@ -29,7 +29,7 @@ fn compiled(alloc: Global, plant: Plant, last: Phase, sizes: &mut Sizes) -> Resu
     if last == Phase::Deciding {
         return Err(Stop::Asked);
     }
-    let controller = controller_of(alloc, plant, registry)?;
+    let controller = controller_of(&Alone, alloc, plant, registry)?;
     sizes.laws = controller.laws().len() as u64;
     sizes.nodes = controller.tree().len() as u64;
     if last == Phase::Compiling {

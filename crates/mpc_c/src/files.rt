@@ -12,7 +12,7 @@ ghost use Rattle.mpc_cli.specs.Outcomes.{IsAnswerFor, IsPlantAnswer};
 ghost use Rattle.mpc_c.specs.Texts.{OutcomeOf};
 ghost use Rattle.mpc_c.specs.Findings.{IsPlantStatus, IsRefusal, IsCheckRefusal, IsFinding, IsStepFinding};
 
-use mpc_check::{Answer, CheckError, accepted_replies, check_alone};
+use mpc_check::{Answer, CheckError, accepted_replies, check};
 use mpc_cli::due_statuses;
 use mpc_controller::{Controller, replies_everywhere};
 use mpc_file::{FileError, one_text, read_file, write_file};
@@ -21,7 +21,7 @@ use mpc_frac::NoMemory;
 use mpc_plant::{Plant, PlantError, read_plant};
 use mpc_recur::{Recur, RecurError, recur};
 use mpc_status::{LatePlace, Status};
-use mpc_synthesis::{SynthesisError, controller, one_controller, right_controller};
+use mpc_synthesis::{Alone, SynthesisError, controller, one_controller, right_controller};
 use mpc_theorem::{file_output_theorems, plant_texts, safe_file_theorems};
 use mpc_words::add_text;
 use mpc_workers::OpenGate;
@@ -104,7 +104,7 @@ fn accept(alloc: Global, controller: &Controller) -> Result<(), Status>
     ensures accepted { OnOk result (Accepts controller.now) }
     ensures refused { IfErr result (IsFinding controller.now) }
 {
-    match check_alone(alloc, controller) {
+    match check(&Alone, alloc, controller) {
         Ok(Answer::Accepted) => Ok(()),
         Ok(Answer::Refused(spot)) => Err(Status::Refused(spot)),
         Err(CheckError::TooWide(place)) => Err(Status::TooWide(place)),

@@ -7,13 +7,11 @@ ghost use Rattle.mpc_check.specs.Borders.{IsFormed, AreFormed, AreBorders, AreBo
 ghost use Rattle.mpc_check.specs.LeafSystems.{NamesLaw};
 ghost use Rattle.mpc_check.specs.Stretches.{IsStretchOf};
 
-use crate::stretches::{FEWEST_LAWS, Stretch, stretches};
+use crate::stretches::Stretch;
 use mpc_frac::NoMemory;
 use mpc_linear::{LinearError, RowInt};
 use mpc_rows::{Law, LawTable, Node, Qp, Tree, law_row};
 use std::alloc::Global;
-use std::thread;
-use std::thread::Threads;
 
 /// A row of a law, as it was formed.
 #[derive(Drop)]
@@ -52,7 +50,7 @@ pub fn form_rows(alloc: Global, qp: &Qp, law: &Law) -> Result<Vec<Formed>, NoMem
 }
 
 /// Which of so many laws are named by a leaf.
-fn named_laws(alloc: Global, count: usize, tree: &Tree) -> Result<Vec<bool>, NoMemory>
+pub fn named_laws(alloc: Global, count: usize, tree: &Tree) -> Result<Vec<bool>, NoMemory>
     requires { All (NamesLaw count) tree.now }
     ensures { IfOk result (λ v. vec_len v ≡ count) }
 {
@@ -80,7 +78,7 @@ fn rows_where(alloc: Global, qp: &Qp, law: &Law, named: bool) -> Result<Vec<Form
 }
 
 /// The rows of each law of a stretch that is named, and none of the other laws.
-fn form_stretch(
+pub fn form_stretch(
     alloc: Global,
     qp: &Qp,
     laws: &LawTable,
@@ -100,27 +98,8 @@ fn form_stretch(
     Ok(borders)
 }
 
-/// The rows of each law that a leaf names, and none of the other laws.
-pub fn form_borders(
-    alloc: Global,
-    qp: &Qp,
-    laws: &LawTable,
-    tree: &Tree,
-) -> Result<Vec<Vec<Formed>>, NoMemory>
-    requires shapes { All (HasLawShape qp.now) laws.now }
-    requires named { All (NamesLaw (length laws.now)) tree.now }
-    ensures { IfOk result (λ v. AreBorders qp.now laws.now v.items) }
-{
-    let named = named_laws(alloc, laws.len(), tree)?;
-    let whole = Stretch {
-        from: 0,
-        to: laws.len(),
-    };
-    form_stretch(alloc, qp, laws, named.as_slice(), whole)
-}
-
 /// The rows of stretches of laws as one list, one stretch behind the other.
-fn joined(
+pub fn joined(
     alloc: Global,
     parts: Vec<Result<Vec<Vec<Formed>>, NoMemory>>,
 ) -> Result<Vec<Vec<Formed>>, NoMemory>
@@ -132,27 +111,4 @@ fn joined(
         borders.append(&mut more).map_err(|_| NoMemory)?;
     }
     Ok(borders)
-}
-
-/// The same as [`form_borders`] forms. Stretches of laws are formed side by side, each in a thread of its own where one can be started, and
-/// else by the caller.
-pub fn form_borders_in_threads<T: Threads + Sync>(
-    rt: &T,
-    alloc: Global,
-    qp: &Qp,
-    laws: &LawTable,
-    tree: &Tree,
-) -> Result<Vec<Vec<Formed>>, NoMemory>
-    requires shapes { All (HasLawShape qp.now) laws.now }
-    requires named { All (NamesLaw (length laws.now)) tree.now }
-    ensures { IfOk result (λ v. AreBorders qp.now laws.now v.items) }
-{
-    let marks = named_laws(alloc, laws.len(), tree)?;
-    let named = marks.as_slice();
-    let stretches = stretches(alloc, laws.len(), FEWEST_LAWS)?;
-    let form = |stretch: Stretch| form_stretch(alloc, qp, laws, named, stretch);
-    match thread::map_vec(rt, stretches, &form) {
-        Ok(parts) => joined(alloc, parts),
-        Err(_) => Err(NoMemory),
-    }
 }

@@ -6,38 +6,24 @@ ghost use Rattle.mpc_check.specs.Acceptance.{BehindMet, BehindFinds, IsAnswer, I
 ghost use Rattle.mpc_check.specs.Findings.{IsSearched};
 
 use crate::answers::{Answer, CheckError, Spot};
-use crate::laws::{search_laws, search_laws_in_threads};
-use crate::trees::{search_tree, search_tree_in_threads};
+use crate::search::Search;
 use mpc_condense::convex_program;
 use mpc_controller::Controller;
 use mpc_rows::Qp;
 use std::alloc::Global;
-use std::thread::Threads;
 
 /// What is found of the laws and of the leaves.
-fn search(alloc: Global, qp: &Qp, controller: &Controller) -> Result<Option<Spot>, CheckError>
+fn search<S: Search>(
+    by: &S,
+    alloc: Global,
+    qp: &Qp,
+    controller: &Controller,
+) -> Result<Option<Spot>, CheckError>
     requires { HasProgram controller.now.plant qp.now }
     ensures { IsSearched (BehindMet qp.now controller.now) (BehindFinds qp.now controller.now) result }
 {
-    match search_laws(alloc, qp, controller.laws()) {
-        Ok(None) => search_tree(alloc, qp, controller.laws(), controller.tree()),
-        Ok(Some(spot)) => Ok(Some(spot)),
-        Err(error) => Err(error),
-    }
-}
-
-/// The same, where the laws, their rows and then the leaves are shared out among threads.
-fn search_in_threads<T: Threads + Sync>(
-    rt: &T,
-    alloc: Global,
-    qp: &Qp,
-    parts: &Controller,
-) -> Result<Option<Spot>, CheckError>
-    requires { HasProgram parts.now.plant qp.now }
-    ensures { IsSearched (BehindMet qp.now parts.now) (BehindFinds qp.now parts.now) result }
-{
-    match search_laws_in_threads(rt, alloc, qp, parts.laws()) {
-        Ok(None) => search_tree_in_threads(rt, alloc, qp, parts.laws(), parts.tree()),
+    match by.search_laws(alloc, qp, controller.laws()) {
+        Ok(None) => by.search_tree(alloc, qp, controller.laws(), controller.tree()),
         Ok(Some(spot)) => Ok(Some(spot)),
         Err(error) => Err(error),
     }
@@ -55,11 +41,11 @@ fn search_in_threads<T: Threads + Sync>(
 /// their rows. The first that isn't met answers: as `Refused` with its spot, as `TooWide` with its place where one of its numbers needs
 /// more than 128 bits, or as `NotDefinite` with the first pivot that isn't positive.
 ///
-/// The laws are asked side by side, their rows are formed so, and then the leaves are checked so: each in as many as 16 stretches of
-/// neighbours, each stretch in a thread of its own where one can be started. Laws that aren't all seen to meet their conditions in whole
-/// numbers are searched by the caller, one after another. It waits for no lock.
-pub fn check<T: Threads + Sync>(
-    rt: &T,
+/// Where `by` has threads, the laws are asked side by side, their rows are formed so, and then the leaves are checked so: each in as many as
+/// 16 stretches of neighbours, each stretch in a thread of its own where one can be started. Laws that aren't all seen to meet their
+/// conditions in whole numbers are searched by the caller, one after another. It waits for no lock.
+pub fn check<S: Search>(
+    by: &S,
     alloc: Global,
     controller: &Controller,
 ) -> Result<Answer, CheckError>
@@ -70,23 +56,7 @@ pub fn check<T: Threads + Sync>(
         Ok(qp) => qp,
         Err(error) => return Err(error),
     };
-    match search_in_threads(rt, alloc, &qp, controller) {
-        Ok(None) => Ok(Answer::Accepted),
-        Ok(Some(spot)) => Ok(Answer::Refused(spot)),
-        Err(error) => Err(error),
-    }
-}
-
-/// What [`check`] answers, by the caller alone: it starts no thread, so a static library can call it.
-pub fn check_alone(alloc: Global, controller: &Controller) -> Result<Answer, CheckError>
-    ensures answer { IfOk result (IsAnswer controller.now) }
-    ensures cause { IfErr result (IsCause controller.now) }
-{
-    let qp = match convex_program(alloc, controller.plant()) {
-        Ok(qp) => qp,
-        Err(error) => return Err(error),
-    };
-    match search(alloc, &qp, controller) {
+    match search(by, alloc, &qp, controller) {
         Ok(None) => Ok(Answer::Accepted),
         Ok(Some(spot)) => Ok(Answer::Refused(spot)),
         Err(error) => Err(error),

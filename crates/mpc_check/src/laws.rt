@@ -11,10 +11,10 @@ use crate::answers::{CheckError, Spot};
 use crate::gradients::search_in_fractions;
 use crate::numbers::WholeProgram;
 use crate::stretches::{FEWEST_LAWS, Stretch, stretches};
-use crate::whole_laws::{is_met_in_wholes, whole_program};
+use crate::whole_laws::is_met_in_wholes;
+use mpc_forks::map_vec;
 use mpc_rows::{Law, LawTable, Qp};
 use std::alloc::Global;
-use std::thread;
 use std::thread::Threads;
 
 /// Whether the conditions on a law are seen to be met in whole numbers.
@@ -48,7 +48,7 @@ fn search_law(
 }
 
 /// What is found of the laws, in their order.
-fn search_each(
+pub fn search_each(
     qp: &Qp,
     program: &Option<WholeProgram>,
     laws: &LawTable,
@@ -65,17 +65,6 @@ fn search_each(
         }
     }
     Ok(None)
-}
-
-/// What is found of the laws, in their order: where one of them doesn't meet the conditions of optimality (Karush 1939, Kuhn and Tucker
-/// 1951), coefficient by coefficient. Without memory for the program in whole numbers, the laws are tested in fractions.
-pub fn search_laws(alloc: Global, qp: &Qp, laws: &LawTable) -> Result<Option<Spot>, CheckError>
-    requires few { length laws.now ≤ 4598479 }
-    requires shapes { All (HasLawShape qp.now) laws.now }
-    ensures { IsSearched (LawsMet qp.now laws.now) (LawsFind qp.now laws.now) result }
-{
-    let program = whole_program(alloc, qp);
-    search_each(qp, &program, laws)
 }
 
 /// Whether the conditions on each law of a stretch are seen to be met in whole numbers.
@@ -102,7 +91,7 @@ fn are_all(answers: &[bool]) -> bool
 
 /// Whether the conditions on all laws are seen to be met in whole numbers. Stretches of them are asked side by side, each in a thread of its
 /// own where one can be started, and else by the caller. Without memory nothing is seen.
-fn are_all_seen_met<T: Threads + Sync>(
+pub fn are_all_seen_met<T: Threads>(
     rt: &T,
     alloc: Global,
     qp: &Qp,
@@ -117,27 +106,8 @@ fn are_all_seen_met<T: Threads + Sync>(
         return false;
     };
     let ask = |stretch: Stretch| are_seen_met(qp, program, laws, stretch);
-    match thread::map_vec(rt, stretches, &ask) {
+    match map_vec(rt, stretches, &ask) {
         Ok(answers) => are_all(answers.as_slice()),
         Err(_) => false,
     }
-}
-
-/// The same as [`search_laws`] finds. Only where not all laws are seen to meet their conditions are they searched one after another, by the
-/// caller alone.
-pub fn search_laws_in_threads<T: Threads + Sync>(
-    rt: &T,
-    alloc: Global,
-    qp: &Qp,
-    laws: &LawTable,
-) -> Result<Option<Spot>, CheckError>
-    requires few { length laws.now ≤ 4598479 }
-    requires shapes { All (HasLawShape qp.now) laws.now }
-    ensures { IsSearched (LawsMet qp.now laws.now) (LawsFind qp.now laws.now) result }
-{
-    let program = whole_program(alloc, qp);
-    if are_all_seen_met(rt, alloc, qp, &program, laws) {
-        return Ok(None);
-    }
-    search_each(qp, &program, laws)
 }

@@ -11,6 +11,7 @@ mod laws;
 mod leaves;
 mod numbers;
 mod rows;
+mod search;
 mod stretches;
 mod theorems;
 mod trees;
@@ -18,5 +19,6 @@ mod whole_laws;
 mod whole_sums;
 
 pub use answers::{Answer, CheckError, Spot};
-pub use checks::{check, check_alone};
+pub use checks::check;
+pub use search::Search;
 pub use theorems::{accepted_replies, law_conditions, one_finding, stretch_theorems};

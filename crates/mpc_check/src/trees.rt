@@ -9,15 +9,13 @@ ghost use Rattle.mpc_check.specs.Stretches.{HaveProgramShapes, IsStretchOf, Answ
 ghost use Rattle.mpc_controller.specs.Ways.{IsWay};
 
 use crate::answers::{CheckError, Spot};
-use crate::borders::{Formed, form_borders, form_borders_in_threads};
+use crate::borders::Formed;
 use crate::leaves::search_node;
 use crate::rows::Cell;
-use crate::stretches::{FEWEST_NODES, Stretch, stretches};
+use crate::stretches::Stretch;
 use mpc_controller::{Turn, go_on, one_path, way_theorems, way_to};
 use mpc_rows::{LawTable, Qp, Tree};
 use std::alloc::Global;
-use std::thread;
-use std::thread::Threads;
 
 /// What is found of the node at a place, counted from 0, to which this way leads.
 fn search_place(
@@ -44,7 +42,7 @@ fn search_place(
 }
 
 /// What is found of a stretch of the tree, node by node in preorder. It begins with its own copy of the way from the root to its first node.
-fn search_stretch(
+pub fn search_stretch(
     alloc: Global,
     qp: &Qp,
     laws: &LawTable,
@@ -69,24 +67,6 @@ fn search_stretch(
     Ok(None)
 }
 
-/// What is found of the tree: it is checked as one stretch.
-pub fn search_tree(
-    alloc: Global,
-    qp: &Qp,
-    laws: &LawTable,
-    tree: &Tree,
-) -> Result<Option<Spot>, CheckError>
-    requires shapes { HaveProgramShapes qp.now laws.now tree.now }
-    ensures { IsSearched (TreeMet qp.now laws.now tree.now) (TreeFinds qp.now laws.now tree.now) result }
-{
-    let borders = form_borders(alloc, qp, laws, tree)?;
-    let whole = Stretch {
-        from: 0,
-        to: tree.len(),
-    };
-    search_stretch(alloc, qp, laws, borders.as_slice(), tree, whole)
-}
-
 /// Whether the answer is that all conditions are met.
 fn is_met(answer: Result<Option<Spot>, CheckError>) -> bool
     ensures { IsTrue result ↔ (answer ≡ Ok None) }
@@ -99,7 +79,9 @@ fn is_met(answer: Result<Option<Spot>, CheckError>) -> bool
 
 /// What is found of neighbouring stretches as one, from what is found of each: of the answers in their order the first that isn't that all
 /// conditions are met.
-fn first_answer(answers: &[Result<Option<Spot>, CheckError>]) -> Result<Option<Spot>, CheckError>
+pub fn first_answer(
+    answers: &[Result<Option<Spot>, CheckError>],
+) -> Result<Option<Spot>, CheckError>
     ensures { AnswersAsOne answers.now result }
 {
     for answer in answers {
@@ -108,26 +90,4 @@ fn first_answer(answers: &[Result<Option<Spot>, CheckError>]) -> Result<Option<S
         }
     }
     Ok(None)
-}
-
-/// What is found of the tree: its stretches are checked side by side, each in a thread of its own where one can be started, and else by the
-/// caller. They share the rows of the laws, which are formed side by side before them. It waits for no lock.
-pub fn search_tree_in_threads<T: Threads + Sync>(
-    rt: &T,
-    alloc: Global,
-    qp: &Qp,
-    laws: &LawTable,
-    tree: &Tree,
-) -> Result<Option<Spot>, CheckError>
-    requires shapes { HaveProgramShapes qp.now laws.now tree.now }
-    ensures { IsSearched (TreeMet qp.now laws.now tree.now) (TreeFinds qp.now laws.now tree.now) result }
-{
-    let formed = form_borders_in_threads(rt, alloc, qp, laws, tree)?;
-    let borders = formed.as_slice();
-    let stretches = stretches(alloc, tree.len(), FEWEST_NODES)?;
-    let search = |stretch: Stretch| search_stretch(alloc, qp, laws, borders, tree, stretch);
-    match thread::map_vec(rt, stretches, &search) {
-        Ok(answers) => first_answer(answers.as_slice()),
-        Err(_) => Err(CheckError::NoMemory),
-    }
 }

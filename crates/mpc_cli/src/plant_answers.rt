@@ -20,8 +20,7 @@ use mpc_frac::NoMemory;
 use mpc_plant::{Plant, PlantError, read_plant};
 use mpc_status::Status;
 use mpc_synthesis::{
-    SynthesisError, controller_of_in_threads, decided, decided_in_threads, one_controller,
-    right_controller,
+    SynthesisError, controller_of, decided, decided_in_threads, one_controller, right_controller,
 };
 use mpc_table::{Sections, cut, replies, right_replies};
 use mpc_theorem::{file_output_theorems, output_lines, plant_texts, trace_theorems};
@@ -82,7 +81,7 @@ fn run_answer<T: Threads + Sync>(
 {
     right_controller();
     right_replies();
-    match controller_of_in_threads(rt, alloc, plant, registry) {
+    match controller_of(rt, alloc, plant, registry) {
         Ok(parts) => {
             let text = replies(alloc, &parts, counts)?;
             Ok(output(text))
@@ -105,7 +104,7 @@ fn compile_answer<T: Threads + Sync>(
     right_controller();
     one_controller();
     one_text();
-    match controller_of_in_threads(rt, alloc, plant, registry) {
+    match controller_of(rt, alloc, plant, registry) {
         Ok(parts) => {
             let text = write_file(alloc, &parts)?;
             Ok(output(text))

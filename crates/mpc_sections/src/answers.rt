@@ -14,7 +14,7 @@ use mpc_file::write_file;
 use mpc_frac::NoMemory;
 use mpc_plant::Plant;
 use mpc_status::Status;
-use mpc_synthesis::{SynthesisError, controller_of_in_threads};
+use mpc_synthesis::{SynthesisError, controller_of};
 use mpc_words::{add_number, add_text};
 use std::alloc::Global;
 use std::thread::Threads;
@@ -49,7 +49,7 @@ fn controller_from<T: Threads + Sync>(
     legal_theorems();
     match registry.first_wide() {
         Some(place) => Err(SynthesisError::TooWide(place)),
-        None => controller_of_in_threads(rt, alloc, plant, registry),
+        None => controller_of(rt, alloc, plant, registry),
     }
 }
 

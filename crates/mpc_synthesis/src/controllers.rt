@@ -9,21 +9,31 @@ ghost use Rattle.mpc_synthesis.specs.Refusals.{controller, ExplainsSynthesisErro
 use crate::SynthesisError;
 use crate::parts::{accepted, sealed, table_of};
 use crate::verdicts::{decided, decided_in_threads};
-use mpc_check::{check, check_alone};
+use mpc_check::{Search, check};
 use mpc_claim::Registry;
 use mpc_controller::Controller;
 use mpc_plant::Plant;
-use mpc_tree::{build, build_alone};
+use mpc_tree::{Grow, build};
 use mpc_workers::Gate;
 use std::alloc::Global;
 use std::sync::Wait;
 use std::thread::Threads;
 
+/// The caller's thread alone, for whom starts no others, as a static library.
+#[derive(Clone, Copy, Debug, Drop)]
+pub struct Alone;
+
+impl Grow for Alone {}
+
+impl Search for Alone {}
+
 /// The controller of a plant whose candidates are decided in this registry. Whoever decided them, it is the same, by
-/// [`one_controller`](crate::one_controller). It starts no thread, so a static library can call it.
+/// [`one_controller`](crate::one_controller). Where `by` has threads, parts of the tree are built, and stretches of it checked, side by
+/// side, as far as threads can be started; it waits for no lock.
 ///
 /// `TooWide` names the first place with a number of more than 128 bits: of the tree, the bounds, and the checker's sums.
-pub fn controller_of(
+pub fn controller_of<B: Grow + Search>(
+    by: &B,
     alloc: Global,
     plant: Plant,
     registry: Registry,
@@ -35,36 +45,12 @@ pub fn controller_of(
     let Ok(table) = table_of(alloc, registry) else {
         return Err(SynthesisError::NoMemory);
     };
-    let tree = build_alone(alloc, &table.program, &table.laws);
+    let tree = build(by, alloc, &table.program, &table.laws);
     let parts = match sealed(alloc, plant, table, tree) {
         Ok(parts) => parts,
         Err(error) => return Err(error),
     };
-    let found = check_alone(alloc, &parts);
-    accepted(parts, found)
-}
-
-/// What [`controller_of`] gives, where parts of the tree are built, and stretches of it checked, side by side, as far as threads
-/// can be started. It waits for no lock.
-pub fn controller_of_in_threads<T: Threads + Sync>(
-    rt: &T,
-    alloc: Global,
-    plant: Plant,
-    registry: Registry,
-) -> Result<Controller, SynthesisError>
-    requires { (workers : ℕ) × IsDecidedBy workers plant registry }
-    ensures controller { IfOk result (λ parts. (qp : Qp) × IsController plant qp parts) }
-    ensures refused { IfErr result (ExplainsSynthesisError controller plant) }
-{
-    let Ok(table) = table_of(alloc, registry) else {
-        return Err(SynthesisError::NoMemory);
-    };
-    let tree = build(rt, alloc, &table.program, &table.laws);
-    let parts = match sealed(alloc, plant, table, tree) {
-        Ok(parts) => parts,
-        Err(error) => return Err(error),
-    };
-    let found = check(rt, alloc, &parts);
+    let found = check(by, alloc, &parts);
     accepted(parts, found)
 }
 
@@ -83,13 +69,13 @@ pub fn controller<G: Gate>(
     ensures refused { IfErr result (ExplainsSynthesisError controller plant) }
 {
     match decided(alloc, &plant, gate) {
-        Ok(registry) => controller_of(alloc, plant, registry),
+        Ok(registry) => controller_of(&Alone, alloc, plant, registry),
         Err(error) => Err(error),
     }
 }
 
-/// What [`controller`] gives, where so many workers decide the active sets, in as many threads as the machine runs at once. The
-/// tree is built and checked as by [`controller_of_in_threads`].
+/// What [`controller`] gives, where so many workers decide the active sets, in as many threads as the machine runs at once, and
+/// the tree is built and checked in threads.
 pub fn controller_in_threads<T: Threads + Wait + Sync, G: Gate + Sync>(
     rt: &T,
     alloc: Global,
@@ -103,7 +89,7 @@ pub fn controller_in_threads<T: Threads + Wait + Sync, G: Gate + Sync>(
     ensures refused { IfErr result (ExplainsSynthesisError controller plant) }
 {
     match decided_in_threads(rt, alloc, &plant, workers, gate) {
-        Ok(registry) => controller_of_in_threads(rt, alloc, plant, registry),
+        Ok(registry) => controller_of(rt, alloc, plant, registry),
         Err(error) => Err(error),
     }
 }

@@ -8,7 +8,7 @@ mod parts;
 mod theorems;
 mod verdicts;
 
-pub use controllers::{controller, controller_in_threads, controller_of, controller_of_in_threads};
+pub use controllers::{Alone, controller, controller_in_threads, controller_of};
 pub use theorems::{one_controller, one_outcome, right_controller};
 /// Why a plant is refused. `TooWide` names the first place of all that the plant goes through.
 pub use answers::{

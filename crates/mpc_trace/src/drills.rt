@@ -12,7 +12,7 @@ use mpc_condense::one_program;
 use mpc_controller::Controller;
 use mpc_frac::NoMemory;
 use mpc_plant::Plant;
-use mpc_synthesis::{SynthesisError, controller_of_in_threads, decided_in_threads};
+use mpc_synthesis::{SynthesisError, controller_of, decided_in_threads};
 use mpc_words::{add_number, add_text};
 use mpc_workers::Gate;
 use std::alloc::Global;
@@ -97,7 +97,7 @@ fn drill_of<T: Threads + Wait + Sync, G: Gate + Sync>(
         Err(error) => return Err(error),
     };
     let candidates = claim_count(registry.history());
-    let parts = match controller_of_in_threads(rt, alloc, plant, registry) {
+    let parts = match controller_of(rt, alloc, plant, registry) {
         Ok(parts) => parts,
         Err(error) => return Err(error),
     };

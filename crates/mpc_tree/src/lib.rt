@@ -27,15 +27,14 @@ mod threads;
 
 use borders::all_borders;
 pub use errors::TreeError;
-use growth::grown_alone;
 use mpc_cover::cover_theorems;
 use mpc_rows::{LawTable, Qp, Tree};
 use mpc_sets::count_theorems;
 use runs::KeptCell;
 use std::alloc::Global;
-use std::thread::Threads;
 pub use theorems::{multipliers_are_cert, one_tree, table_theorems};
-use threads::grown_in_threads;
+pub use threads::Grow;
+use threads::grown_by;
 
 /// The search tree of a table of laws over the box (Tøndel, Johansen and Bemporad, 2003): at each
 /// cell the first law whose region meets it. The cell is a leaf where it lies in that region, and
@@ -47,16 +46,11 @@ use threads::grown_in_threads;
 /// certificate of the box, the cell and all rows of the program. They are the multipliers at the
 /// ends of the runs of the simplex method by least numbers that decide the leaf.
 ///
-/// The cells below the upper part of a large tree are built at once, and the tree is the same whether
-/// they are or not. Where one is refused, what comes after it in preorder is given up.
+/// Where `by` has threads, the cells below the upper part of a large tree are built at once, and the
+/// tree is the same whether they are or not. Where one is refused, what comes after it in preorder is given up.
 ///
 /// `Wide` names the first run, node by node in preorder, with a number that needs more than 128 bits.
-pub fn build<T: Threads + Sync>(
-    rt: &T,
-    alloc: Global,
-    qp: &Qp,
-    laws: &LawTable,
-) -> Result<Tree, TreeError>
+pub fn build<G: Grow>(by: &G, alloc: Global, qp: &Qp, laws: &LawTable) -> Result<Tree, TreeError>
     requires definite { IsDefinite qp.now.h.rows }
     requires table { IsTable qp.now laws.now }
     requires rows_fit { All (λ law. LawRowsFit qp.now law (height qp.now.g)) laws.now }
@@ -73,26 +67,5 @@ pub fn build<T: Threads + Sync>(
     count_theorems();
     let borders = all_borders(alloc, qp, laws)?;
     let cell = KeptCell::of(alloc, qp, Vec::new(alloc))?;
-    grown_in_threads(rt, alloc, qp, laws, &borders, cell, 0)
-}
-
-/// The same tree, by the caller's thread alone.
-pub fn build_alone(alloc: Global, qp: &Qp, laws: &LawTable) -> Result<Tree, TreeError>
-    requires definite { IsDefinite qp.now.h.rows }
-    requires table { IsTable qp.now laws.now }
-    requires rows_fit { All (λ law. LawRowsFit qp.now law (height qp.now.g)) laws.now }
-    ensures tree { IfOk result (λ nodes. IsTreeOf qp.now laws.now whole_box nodes) }
-    ensures certs { IfOk result (λ nodes. IsTreeWhere AnySplit (HasItsCerts qp.now laws.now) whole_box nodes) }
-    ensures certified { IfOk result (λ nodes. IsCertified qp.now laws.now whole_box nodes) }
-    ensures no_move { IfOk result (λ nodes. IsTreeWhere AnySplit (IsRightlyEmpty qp.now) whole_box nodes) }
-
-    // The runs are those of the search in preorder.
-    ensures wide { MatchResult result (λ nodes. IsFittingTree qp.now laws.now whole_box nodes)
-        (λ e. IfWide e (IsFirstWide qp.now laws.now whole_box 1)) }
-{
-    cover_theorems();
-    count_theorems();
-    let borders = all_borders(alloc, qp, laws)?;
-    let cell = KeptCell::of(alloc, qp, Vec::new(alloc))?;
-    grown_alone(alloc, qp, laws, &borders, cell, 0)
+    grown_by(by, alloc, qp, laws, &borders, cell, 0)
 }

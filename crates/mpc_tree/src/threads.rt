@@ -15,11 +15,12 @@ use crate::frontier::{Piece, open_cells, pieces_of};
 use crate::growth::{grown, grown_alone};
 use crate::refusals::{Refusals, Watch, is_called_off};
 use crate::runs::{KeptCell, copied_rows};
+use mpc_forks::map_indices;
 use mpc_frac::NoMemory;
 use mpc_rows::{LawTable, Place, Qp, Tree};
 use std::alloc::Global;
 use std::sync::atomic::{AtomicU64, Ordering};
-use std::thread::{Threads, available_parallelism, map_indices};
+use std::thread::{Threads, available_parallelism};
 
 /// From how many laws on a tree is cut into pieces. That of fewer is built sooner than a few threads
 /// are started.
@@ -101,38 +102,61 @@ fn draw(
     Ok(drawn)
 }
 
-/// How many threads the machine runs at once.
-fn threads_at_once<T: Threads>(rt: &T) -> usize {
-    match available_parallelism(rt) {
-        Ok(at_once) => at_once.get(),
-        Err(_) => 1,
+/// How the cells that are open below the upper part of a tree are built. The bodies that stand here leave them to the caller; what has
+/// [`Threads`] shares them out.
+pub trait Grow {
+    /// How many threads may build cells at once.
+    fn threads_at_once(&self) -> usize {
+        1
+    }
+
+    /// What becomes of the open cells among the pieces, by the threads that have drawn them, at most so
+    /// many. Those that are left to the caller, or called off, are lacking.
+    fn all_drawn(
+        &self,
+        alloc: Global,
+        qp: &Qp,
+        laws: &LawTable,
+        borders: &[Border],
+        pieces: &[Piece],
+        most: usize,
+    ) -> Result<Vec<Result<Vec<Drawn>, NoMemory>>, NoMemory>
+        requires few { length laws.now < 2 ^ 32 }
+        requires borders { AreBorders qp.now laws.now borders.now }
+        requires cover { RegionsCover qp.now laws.now }
+        requires open { All (IsOpen qp.now laws.now) pieces.now }
+        ensures { IfOk result (λ hands. All (λ hand. IfOk hand (λ drawn. All (IsDrawn qp.now laws.now pieces.now) drawn.items)) hands.items) }
+    {
+        Ok(Vec::new(alloc))
     }
 }
 
-/// What becomes of the open cells among the pieces, by the threads that have drawn them, at most so
-/// many. Those that are called off are lacking.
-fn all_drawn<T: Threads + Sync>(
-    rt: &T,
-    alloc: Global,
-    qp: &Qp,
-    laws: &LawTable,
-    borders: &[Border],
-    pieces: &[Piece],
-    most: usize,
-) -> Result<Vec<Result<Vec<Drawn>, NoMemory>>, NoMemory>
-    requires few { length laws.now < 2 ^ 32 }
-    requires borders { AreBorders qp.now laws.now borders.now }
-    requires cover { RegionsCover qp.now laws.now }
-    requires open { All (IsOpen qp.now laws.now) pieces.now }
-    ensures { IfOk result (λ hands. All (λ hand. IfOk hand (λ drawn. All (IsDrawn qp.now laws.now pieces.now) drawn.items)) hands.items) }
-{
-    let draws = AtomicU64::new(0);
-    let refusals = Refusals::none();
-    let threads = most.min(open_cells(pieces) / CELLS_A_THREAD);
-    let hand = |_| draw(alloc, qp, laws, borders, pieces, &draws, &refusals);
-    match map_indices(rt, alloc, threads, &hand) {
-        Ok(hands) => Ok(hands),
-        Err(_) => Err(NoMemory),
+/// As many threads as the machine runs at once draw the cells.
+impl<T: Threads> Grow for T {
+    fn threads_at_once(&self) -> usize {
+        match available_parallelism(self) {
+            Ok(at_once) => at_once.get(),
+            Err(_) => 1,
+        }
+    }
+
+    fn all_drawn(
+        &self,
+        alloc: Global,
+        qp: &Qp,
+        laws: &LawTable,
+        borders: &[Border],
+        pieces: &[Piece],
+        most: usize,
+    ) -> Result<Vec<Result<Vec<Drawn>, NoMemory>>, NoMemory> {
+        let draws = AtomicU64::new(0);
+        let refusals = Refusals::none();
+        let threads = most.min(open_cells(pieces) / CELLS_A_THREAD);
+        let hand = |_| draw(alloc, qp, laws, borders, pieces, &draws, &refusals);
+        match map_indices(self, alloc, threads, &hand) {
+            Ok(hands) => Ok(hands),
+            Err(_) => Err(NoMemory),
+        }
     }
 }
 
@@ -230,10 +254,10 @@ fn joined(
 }
 
 /// The tree of the cell with these rows, whose search goes on with the next law. Its upper part is
-/// grown by the caller, and the cells that are open below are built by as many threads as the machine
-/// runs at once. Where that is one, nothing is cut. `Wide` numbers the nodes from 1.
-pub fn grown_in_threads<T: Threads + Sync>(
-    rt: &T,
+/// grown by the caller, and the cells that are open below are built by as many threads as there may be
+/// at once. Where that is one, nothing is cut. `Wide` numbers the nodes from 1.
+pub fn grown_by<G: Grow>(
+    by: &G,
     alloc: Global,
     qp: &Qp,
     laws: &LawTable,
@@ -249,12 +273,12 @@ pub fn grown_in_threads<T: Threads + Sync>(
     ensures built { IfOk result (λ nodes. IsBuilt qp.now laws.now (record { rows = cell.rows.items; next = next }) nodes) }
     ensures wide { IfErr result (λ e. IfWide e (IsFirstWide qp.now laws.now (record { rows = cell.rows.items; next = next }) 1)) }
 {
-    let most = threads_at_once(rt);
+    let most = by.threads_at_once();
     if most < 2 || laws.len() < MANY_LAWS {
         return grown_alone(alloc, qp, laws, borders, cell, next);
     }
     let mut pieces = pieces_of(alloc, qp, laws, borders, cell, next)?;
-    let hands = all_drawn(rt, alloc, qp, laws, borders, &pieces, most)?;
+    let hands = by.all_drawn(alloc, qp, laws, borders, &pieces, most)?;
     for hand in hands {
         lay_all(&mut pieces, hand?);
     }

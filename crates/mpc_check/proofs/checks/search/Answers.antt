@@ -10,7 +10,7 @@ use Rattle.mpc_check.proofs.CheckLemmas.{laws_shaped, program_shapes, behind_tre
 use Rattle.mpc_check.proofs.checks.search.Goals as goal
 
 pub returns-in-Ok-None : goal.returns-in-Ok-None
-returns-in-Ok-None c =
+returns-in-Ok-None g c =
     let qp = c.args.qp.now in
     let parts = c.args.controller.now in
     behind_tree qp parts c.search_tree.result
@@ -20,7 +20,7 @@ returns-in-Ok-None c =
     (subst (λ nodes. IsSearched (TreeMet qp c.laws-in-Ok-None.result.now nodes) (TreeFinds qp c.laws-in-Ok-None.result.now nodes) c.search_tree.result) c.tree.ensures.value c.search_tree.ensures))
 
 pub returns-in-Err : goal.returns-in-Err
-returns-in-Err c =
+returns-in-Err g c =
     let qp = c.args.qp.now in
     let parts = c.args.controller.now in
     earlier_error (LawsMet qp parts.laws) (BehindMet qp parts) (LawsFind qp parts.laws) (TreeFinds qp parts.laws parts.tree) c.in-Err.error
@@ -28,12 +28,12 @@ returns-in-Err c =
     (subst (λ r. IsSearched (LawsMet qp c.laws.result.now) (LawsFind qp c.laws.result.now) r) c.in-Err.is c.search_laws.ensures))
 
 pub search_laws-requires-clause-shapes : goal.search_laws-requires-clause-shapes
-search_laws-requires-clause-shapes c =
+search_laws-requires-clause-shapes g c =
     let parts = c.args.controller.now in
     subst (All (HasLawShape c.args.qp.now)) (sym c.laws.ensures.value) (laws_shaped parts.plant c.args.qp.now c.requires.condensed parts.laws c.laws.ensures.controller.shapes.laws_fit)
 
 pub search_tree-requires : goal.search_tree-requires
-search_tree-requires c =
+search_tree-requires g c =
     let parts = c.args.controller.now in
     record {
       shapes = subst (λ laws. HaveProgramShapes c.args.qp.now laws c.tree.result.now) (sym c.laws-in-Ok-None.ensures.value)

@@ -13,8 +13,8 @@ returns-in-Some-clause-refused g c =
     wide_set controller c.requires.qp c.in-Some.place c.requires.convex.has_program c.requires.convex.pivots
     (subst (λ (q : Qp). IsFirstBad q (Wide c.in-Some.place)) c.requires.done.program c.in-Some.ensures)
 
-pub controller_of_in_threads-requires : goal.controller_of_in_threads-requires
-controller_of_in_threads-requires g c =
+pub controller_of-requires : goal.controller_of-requires
+controller_of-requires g c =
     let finished : c.args.registry.phase ≡ Finished = ⊎_elim (λ f. f.0) (λ s. absurd (c.in-None.ensures s.0)) c.requires.done.ended in
     let decided : (workers : ℕ) × IsDecidedBy workers c.args.plant c.args.registry = decided_by c.legal_theorems.ensures.legal c.args.plant c.args.registry c.requires finished in
     search rules

@@ -2,13 +2,13 @@ use Rattle.std.proofs.Common.{◌≤◌, length, sym, subst, arith}
 use Rattle.mpc_check.specs.Findings.{IsSearched}
 use Rattle.mpc_check.specs.LeafConditions.{NodeAtMet, NodeAtFinds, StretchMet, StretchFinds}
 use Rattle.mpc_check.proofs.StretchLemmas.{whole_searched}
-use Rattle.mpc_check.proofs.trees.search_tree.Goals as goal
+use Rattle.mpc_check.proofs.search.Search.search_tree.Goals as goal
 
 pub search_stretch-requires-clause-stretch : goal.search_stretch-requires-clause-stretch
-search_stretch-requires-clause-stretch c = record { in_order = omega arith; inside = subst (λ n. n ≤ length c.args.tree.now) (sym c.len.ensures) (omega arith) }
+search_stretch-requires-clause-stretch g c = record { in_order = omega arith; inside = subst (λ n. n ≤ length c.args.tree.now) (sym c.len.ensures) (omega arith) }
 
 pub returns : goal.returns
-returns c =
+returns g c =
     let qp = c.args.qp.now in
     let laws = c.args.laws.now in
     let nodes = c.args.tree.now in

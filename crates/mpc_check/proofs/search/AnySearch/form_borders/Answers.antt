@@ -3,7 +3,7 @@ use Rattle.std.specs.Prelude.{slice_index_or, IfOk}
 use Rattle.mpc_check.specs.declared.stretches.Stretch.{Stretch}
 use Rattle.mpc_check.specs.Borders.{AreBordersOf}
 use Rattle.mpc_check.proofs.BorderLemmas.{of_parts}
-use Rattle.mpc_check.proofs.borders.form_borders_in_threads.Goals as goal
+use Rattle.mpc_check.proofs.search.AnySearch.form_borders.Goals as goal
 
 pub returns-in-Ok : goal.returns-in-Ok
 returns-in-Ok g c =

@@ -7,7 +7,7 @@ use Rattle.std.specs.Vec.Iter.{into_iter_items, into_iter_len}
 use Rattle.mpc_tree.specs.Growth.{IsBuilt}
 use Rattle.mpc_tree.specs.Pieces.{cell_at, AreFilled, IsDrawn}
 use Rattle.mpc_tree.proofs.PieceLemmas.{AllBecome, IsHand, become_same, become_finer, become_open, of_whole, wide_whole, hand_within, all_laid}
-use Rattle.mpc_tree.proofs.threads.grown_in_threads.Goals as goal
+use Rattle.mpc_tree.proofs.threads.grown_by.Goals as goal
 
 pub loop-hand-init : goal.loop-hand-init
 loop-hand-init g c =

@@ -2,7 +2,7 @@ use Rattle.std.proofs.Common.{◌≡◌, length}
 use Rattle.std.specs.Prelude.{All}
 use Rattle.std.specs.Vec.Iter.{into_iter_items, into_iter_len}
 use Rattle.mpc_tree.proofs.PieceLemmas.{AllBecome, IsHand}
-use Rattle.mpc_tree.proofs.threads.grown_in_threads.Given as goal
+use Rattle.mpc_tree.proofs.threads.grown_by.Given as goal
 
 abbrev pub invariant-loop-hand : goal.invariant-loop-hand
 invariant-loop-hand g l = record {

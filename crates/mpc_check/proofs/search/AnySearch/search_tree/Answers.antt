@@ -5,7 +5,7 @@ use Rattle.mpc_check.specs.LeafConditions.{NodeAtMet, NodeAtFinds, StretchMet, S
 use Rattle.mpc_check.specs.Stretches.{AreSearched}
 use Rattle.mpc_check.proofs.StretchLemmas.{whole_searched}
 use Rattle.mpc_check.proofs.SideLemmas.{each_searched}
-use Rattle.mpc_check.proofs.trees.search_tree_in_threads.Goals as goal
+use Rattle.mpc_check.proofs.search.AnySearch.search_tree.Goals as goal
 
 pub returns-in-Ok : goal.returns-in-Ok
 returns-in-Ok g c =
