@@ -39,9 +39,13 @@ MeetsCondition qp law i t = MeetsConditionBy (is_member i law.set) qp law i t
 abbrev pub excess_form : Qp → Law → ℕ → List ℚ
 excess_form qp law i = listed (length qp.counts + 1) (λ j. neg_ℚ (coordinate (row_of qp.w.rows i) j) +ℚ dot (row_of qp.g.rows i) (column law.moves.rows j))
 
+-- the negative of the multiplier of the member at place k, from 0
+abbrev pub member_form : Law → ℕ → List ℚ
+member_form law k = vec_scale (int (negsuc 0)) (get_or law.mults.rows k [])
+
 -- the affine form that is at most 0 where the condition of row i holds: the negative of a member's multiplier, and else what the row exceeds
 unfoldable pub law_form : Qp → Law → ℕ → List ℚ
-law_form qp law i = cond (is_member i law.set) (vec_scale (int (negsuc 0)) (get_or law.mults.rows (place_of i law.set) [])) (excess_form qp law i)
+law_form qp law i = cond (is_member i law.set) (member_form law (place_of i law.set)) (excess_form qp law i)
 
 -- that condition as a row in t: the coefficients on t, and the negative of the one on 1
 abbrev pub law_sides : Qp → Law → ℕ → List ℚ

@@ -1,5 +1,5 @@
 -- What is single: the law of a set, the rows of a law, the coefficients of an affine form.
-use Rattle.std.specs.Prelude.{◌≡◌, ℕ, ◌+◌, ◌<◌, ◌≤◌, List, length, get_or}
+use Rattle.std.specs.Prelude.{◌≡◌, ℕ, suc, ◌+◌, ◌<◌, ◌≤◌, Some, None, List, length, get_or}
 use Rattle.mpc_exact.specs.Rational.{ℚ}
 use Rattle.mpc_space.specs.Vector.{coordinate, dot}
 use Rattle.mpc_space.specs.Definite.{IsDefinite}
@@ -10,7 +10,7 @@ use Rattle.mpc_rows.specs.declared.programs.Qp.{Qp}
 use Rattle.mpc_rows.specs.declared.laws.Law.{Law}
 use Rattle.mpc_rows.specs.ActiveSets.{extended, IsIndependentSet}
 use Rattle.mpc_rows.specs.Laws.{HasLawShape, IsLaw}
-use Rattle.mpc_rows.specs.LawRows.{law_sides, law_bound, IsLawRow, AreLawRows}
+use Rattle.mpc_rows.specs.LawRows.{IsPlaceAmong, excess_form, member_form, law_form, law_sides, law_bound, IsLawRow, AreLawRows}
 
 -- affine forms with the same values have the same coefficients
 abbrev pub SameCoefficients : Type 0
@@ -42,3 +42,24 @@ pub record LawTheorems : Type 0 where
   pub law_rows_unique : OneListOfRows
   pub law_row_size : LawRowSize
   pub member_bounds : MemberBounds
+
+-- ---- the form of a row
+-- the form of a row outside the set, and of the member at a place
+abbrev pub FormOutside : Type 0
+FormOutside = (qp : Qp) (law : Law) (i : ℕ) → IsPlaceAmong law.set i None → law_form qp law i ≡ excess_form qp law i
+
+abbrev pub FormOfMember : Type 0
+FormOfMember = (qp : Qp) (law : Law) (i k : ℕ) → IsPlaceAmong law.set i (Some k) → law_form qp law i ≡ member_form law k
+
+-- its coefficients on t, one for each count
+abbrev pub SideOfForm : Type 0
+SideOfForm = (qp : Qp) (law : Law) (i j : ℕ) → coordinate (law_sides qp law i) j ≡ coordinate (law_form qp law i) (suc j)
+
+abbrev pub SidesSize : Type 0
+SidesSize = (qp : Qp) (law : Law) (i : ℕ) → HasLawShape qp law → length (law_sides qp law i) ≡ length qp.counts
+
+pub record FormTheorems : Type 0 where
+  pub outside : FormOutside
+  pub member : FormOfMember
+  pub side : SideOfForm
+  pub sides_size : SidesSize

@@ -17,7 +17,7 @@ use mpc_sets::ActiveSet;
 use std::alloc::Global;
 
 /// The place of the row among the members, from 0, if it is one.
-fn place_among(set: ActiveSet, row: u32) -> Option<u32>
+pub fn place_among(set: ActiveSet, row: u32) -> Option<u32>
     ensures { IsPlaceAmong set row result }
 {
     for k in 0..set.size() {

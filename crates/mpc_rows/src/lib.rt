@@ -14,12 +14,12 @@ mod trees;
 mod verdicts;
 
 pub use counts::Counts;
-pub use law_rows::law_row;
+pub use law_rows::{law_row, place_among};
 pub use laws::{Law, LawTable};
 pub use places::Place;
 pub use programs::Qp;
 pub use refuting::refutes;
-pub use rules::{law_theorems, region_theorems, system_theorems};
+pub use rules::{form_theorems, law_theorems, region_theorems, system_theorems};
 pub use systems::{Multipliers, PairPoint, Row, Rows, System};
 pub use trees::{Cert, Certs, Node, Tree};
 pub use verdicts::{Judged, Verdict};

@@ -1,6 +1,6 @@
 //! What holds of every system, region and law, for those who prove something of them. The calls do nothing: their contracts are the theorems.
 
-ghost use Rattle.mpc_rows.specs.LawTheorems.{LawTheorems};
+ghost use Rattle.mpc_rows.specs.LawTheorems.{FormTheorems, LawTheorems};
 ghost use Rattle.mpc_rows.specs.RegionTheorems.{RegionTheorems};
 ghost use Rattle.mpc_rows.specs.SystemTheorems.{SystemTheorems};
 
@@ -24,3 +24,8 @@ pub fn law_theorems()
 {
     primitive_theorems();
 }
+
+/// The form of a row of a law, and its coefficients on t.
+pub fn form_theorems()
+    ensures { FormTheorems }
+{}

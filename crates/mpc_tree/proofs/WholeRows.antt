@@ -11,7 +11,7 @@ use Rattle.mpc_exact.proofs.Rational.{int-add, int-mul}
 use Rattle.mpc_exact.proofs.RationalRing.{reads, by_ring}
 use Rattle.mpc_exact.proofs.RationalOrder.{positive_int, positive-mul}
 use Rattle.mpc_exact.proofs.School.{frac_times, int-neg}
-use Rattle.mpc_space.specs.Vector.{coordinate, column, dot, vec_scale, later_entries}
+use Rattle.mpc_space.specs.Vector.{coordinate, column, dot, vec_scale}
 use Rattle.mpc_space.specs.Matrix.{RationalMatrix, height, entry}
 use Rattle.mpc_space.specs.Total.{total}
 use Rattle.mpc_space.proofs.Entries.{same_entries, coordinate-scale, coordinate-listed, length-scale, dot-total_within}
@@ -25,19 +25,15 @@ use Rattle.mpc_rows.specs.declared.programs.Qp.{Qp}
 use Rattle.mpc_rows.specs.declared.laws.Law.{Law}
 use Rattle.mpc_rows.specs.ActiveSets.{row_of}
 use Rattle.mpc_rows.specs.Laws.{HasLawShape}
-use Rattle.mpc_rows.specs.LawRows.{is_member, excess_form, law_form, law_sides, law_bound, AreLawRows}
-use Rattle.mpc_rows.specs.LawTheorems.{LawRowSize}
-use Rattle.mpc_rows.proofs.JointLemmas.{length-later}
-use Rattle.mpc_rows.proofs.LawLemmas.{coordinate-later}
-use Rattle.mpc_rows.proofs.LawRowLemmas.{form_size}
-use Rattle.mpc_rows.proofs.PlaceLemmas.{member_place}
+use Rattle.mpc_rows.specs.LawRows.{is_member, excess_form, member_form, law_form, law_sides, law_bound, AreLawRows}
+use Rattle.mpc_rows.specs.LawTheorems.{LawRowSize, FormTheorems}
 use Rattle.mpc_sweep.specs.declared.numbers.Swept.{Swept}
 use Rattle.mpc_sweep.specs.Sweeps.{swept}
 use Rattle.mpc_sweep.specs.Numbers.{number}
 use Rattle.mpc_systems.specs.Writing.{IsOfSize, AreOfSize}
 use Rattle.mpc_tree.specs.declared.rows.RowNumbers.{RowNumbers}
 use Rattle.mpc_tree.specs.declared.rows.LawNumbers.{LawNumbers}
-use Rattle.mpc_tree.specs.WholeRows.{IsRead, AreRowNumbers, AreLawNumbers, all_dens, IsExcess, member_form, AreSides, IsPlainRow}
+use Rattle.mpc_tree.specs.WholeRows.{IsRead, AreRowNumbers, AreLawNumbers, all_dens, IsExcess, AreSides, IsPlainRow}
 
 -- ---- numbers and sums of products
 pub read64 : (z : ℤ) → unsigned_abs z ≤ 2 ^ 62 → to_z w64 (of_z w64 z) ≡ z
@@ -134,14 +130,11 @@ not_member (j ∷ s) i none = ⊎_elim
     (λ p. ap (λ b. b || is_member i s) (ne_eqb i j p) ∙ not_member s i (λ c. none (suc c.0, let h : c.0 < length s = c.1 in omega arith, c.2)))
     (cases_eq i j)
 
-module _ (qp : Qp) (law : Law) (i : ℕ) (shape : HasLawShape qp law) (sized : LawRowSize) (scale : ℚ) (some : IsPositive scale) (form : List ℚ) (is_form : law_form qp law i ≡ form) where
-  size : length form ≡ length qp.counts + 1
-  size = ap length (sym is_form) ∙ form_size qp law i shape (λ e. (member_place law.set i e).0)
-
-  sides_are : (v : List ℤ) → AreSides scale form (length qp.counts) v → map int v ≡ vec_scale scale (later_entries form)
-  sides_are v e = same_entries (map int v) (vec_scale scale (later_entries form)) (length-map v int ∙ e.size ∙ sym (length-scale scale (later_entries form) ∙ length-later form (length qp.counts) size))
+module _ (forms : FormTheorems) (qp : Qp) (law : Law) (i : ℕ) (shape : HasLawShape qp law) (sized : LawRowSize) (scale : ℚ) (some : IsPositive scale) (form : List ℚ) (is_form : law_form qp law i ≡ form) where
+  sides_are : (v : List ℤ) → AreSides scale form (length qp.counts) v → map int v ≡ vec_scale scale (law_sides qp law i)
+  sides_are v e = same_entries (map int v) (vec_scale scale (law_sides qp law i)) (length-map v int ∙ e.size ∙ sym (length-scale scale (law_sides qp law i) ∙ forms.sides_size qp law i shape))
       (λ k h. let within : k < length v = subst (λ m. k < m) (length-map v int) h in
-      get_or-map int v k (pos 0) (int (pos 0)) within ∙ e.each k within ∙ ap (λ x. scale *ℚ x) (sym (coordinate-later form k)) ∙ sym (coordinate-scale scale (later_entries form) k))
+      get_or-map int v k (pos 0) (int (pos 0)) within ∙ e.each k within ∙ ap (λ f. scale *ℚ coordinate f (suc k)) (sym is_form) ∙ ap (λ x. scale *ℚ x) (sym (forms.side qp law i k)) ∙ sym (coordinate-scale scale (law_sides qp law i) k))
 
   pub row_made : (whole row : RowInt) → AreSides scale form (length qp.counts) whole.a → int whole.b ≡ scale *ℚ neg_ℚ (coordinate form 0)
       → ((coefficients : List ℚ) (bound : ℚ) → IsScaledRow coefficients bound whole.a whole.b → IsScaledRow coefficients bound row.a row.b)
@@ -150,7 +143,7 @@ module _ (qp : Qp) (law : Law) (i : ℕ) (shape : HasLawShape qp law) (sized : L
       let multiple = s (law_sides qp law i) (law_bound qp law i) (record {
         factor = scale;
         positive = some;
-        left = sides_are whole.a e ∙ ap (λ f. vec_scale scale (later_entries f)) (sym is_form);
+        left = sides_are whole.a e;
         right = b ∙ ap (λ f. scale *ℚ neg_ℚ (coordinate f 0)) (sym is_form);
       }) in
       record { is_row = record { multiple = multiple; primitive = p }; plain = record { size = sized qp law i shape row multiple; small = small; b_small = b_small } }

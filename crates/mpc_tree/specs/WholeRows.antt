@@ -1,7 +1,7 @@
 -- The rows of a law in whole numbers: each matrix over one denominator.
-use Rattle.std.specs.Prelude.{◌≡◌, ℕ, suc, ◌<◌, ◌≤◌, ◌^◌, List, [], length, get_or, ℤ, pos, negsuc, neg_ℤ, ◌*ℤ◌, unsigned_abs, IfSome}
+use Rattle.std.specs.Prelude.{◌≡◌, ℕ, suc, ◌<◌, ◌≤◌, ◌^◌, List, [], length, get_or, ℤ, pos, neg_ℤ, ◌*ℤ◌, unsigned_abs, IfSome}
 use Rattle.mpc_exact.specs.Rational.{ℚ, int, ◌*ℚ◌}
-use Rattle.mpc_space.specs.Vector.{coordinate, vec_scale}
+use Rattle.mpc_space.specs.Vector.{coordinate}
 use Rattle.mpc_space.specs.Matrix.{RationalMatrix, height, entry}
 use Rattle.mpc_linear.specs.declared.integers.RowInt.{RowInt}
 use Rattle.mpc_linear.specs.Whole.{AreSmall}
@@ -37,10 +37,6 @@ all_dens n l = int (pos n.w.den) *ℚ (int (pos n.g.den) *ℚ int (pos l.moves.d
 -- the coefficient of a row's form on the extended count j, times that product
 abbrev pub IsExcess : Qp → Law → RowNumbers → LawNumbers → ℕ → ℕ → ℤ → Type 0
 IsExcess qp law n l i j z = int z ≡ all_dens n l *ℚ coordinate (excess_form qp law i) j
-
--- minus the multiplier of the member at place k, from 0
-abbrev pub member_form : Law → ℕ → List ℚ
-member_form law k = vec_scale (int (negsuc 0)) (get_or law.mults.rows k [])
 
 -- the coefficients of a form on t, times a scale, so far as they are formed
 pub record AreSides (scale : ℚ) (form : List ℚ) (count : ℕ) (v : List ℤ) : Type 0 where

@@ -1,21 +1,22 @@
 //! The rows of a law, formed in whole numbers where these are small.
 
-ghost use Rattle.std.specs.Prelude.{◌≡◌, ℤ, pos, ◌+◌, ◌<◌, ◌≤◌, ◌^◌, ◌+ℤ◌, ◌*ℤ◌, unsigned_abs, IfOk, IfSome, length};
+ghost use Rattle.std.specs.Prelude.{◌≡◌, ℤ, pos, ◌+◌, ◌<◌, ◌≤◌, ◌^◌, ◌+ℤ◌, ◌*ℤ◌, unsigned_abs, IfOk, IfSome, Some, None, length};
 ghost use Rattle.mpc_exact.specs.Rational.{int, ◌*ℚ◌};
 ghost use Rattle.mpc_space.specs.Matrix.{height};
 ghost use Rattle.mpc_space.specs.Total.{total};
 ghost use Rattle.mpc_rows.specs.Laws.{HasLawShape};
-ghost use Rattle.mpc_rows.specs.LawRows.{excess_form, AreLawRows, LawRowFits};
+ghost use Rattle.mpc_rows.specs.LawRows.{IsPlaceAmong, excess_form, member_form, AreLawRows, LawRowFits};
 ghost use Rattle.mpc_rows.specs.SetRuns.{LawRowsFit};
 ghost use Rattle.mpc_sweep.specs.Numbers.{IsTable, number};
 ghost use Rattle.mpc_systems.specs.Writing.{AreOfSize};
-ghost use Rattle.mpc_tree.specs.WholeRows.{IsRead, AreRowNumbers, AreLawNumbers, all_dens, member_form, IsExcess, AreSides, IsPlainRow};
+ghost use Rattle.mpc_tree.specs.WholeRows.{IsRead, AreRowNumbers, AreLawNumbers, all_dens, IsExcess, AreSides, IsPlainRow};
 
 use mpc_frac::NoMemory;
 use mpc_linear::{Ints, LinearError, RowInt, without_divisor};
 use mpc_region::law_rows;
-use mpc_rows::{Law, Qp, law_row, law_theorems};
+use mpc_rows::{Law, Qp, form_theorems, law_row, law_theorems, place_among};
 use mpc_scaled::{narrow, negative, product, signed};
+use mpc_sets::ActiveSet;
 use mpc_sweep::Swept;
 use std::alloc::Global;
 
@@ -171,7 +172,7 @@ fn excesses(
     Ok(Some(sides))
 }
 
-/// A row of a law, by its number from 1, where it is outside the law's set and whole numbers serve.
+/// A row of a law, by its number from 1, which is no member of the law's set, where whole numbers serve.
 fn outside_row(
     alloc: Global,
     qp: &Qp,
@@ -183,14 +184,13 @@ fn outside_row(
     requires from_one { 1 ≤ row_number }
     requires to_last { row_number ≤ height qp.now.g }
     requires shape { HasLawShape qp.now law.now }
+    requires outside { IsPlaceAmong law.now.set row_number None }
     requires numbers { AreRowNumbers qp.now numbers.now }
     requires unknowns { AreLawNumbers law.now numbers.now unknowns.now }
     ensures { IfOk result (λ o. IfSome o (IsPlainRow qp.now law.now row_number)) }
 {
     law_theorems();
-    if law.set.has(row_number) {
-        return Ok(None);
-    }
+    form_theorems();
     let Some(constant) = excess(qp, law, numbers, unknowns, row_number, 0) else {
         return Ok(None);
     };
@@ -226,33 +226,65 @@ fn member_sides(
     Ok(sides)
 }
 
-/// A row of a law, by its number from 1, where it is a member of the law's set and whole numbers serve.
+/// A row of a law, by its number from 1, which is the member at the place, from 0, where whole numbers serve.
 fn member_row(
     alloc: Global,
     qp: &Qp,
     law: &Law,
     unknowns: &LawNumbers,
     row_number: u32,
+    place: u32,
 ) -> Result<Option<RowInt>, NoMemory>
     requires shape { HasLawShape qp.now law.now }
+    requires member { IsPlaceAmong law.now.set row_number (Some place) }
     requires unknowns { IfSome unknowns.now.mults (IsRead law.now.mults) }
     ensures { IfOk result (λ o. IfSome o (IsPlainRow qp.now law.now row_number)) }
 {
     law_theorems();
+    form_theorems();
     let Some(mults) = &unknowns.mults else {
         return Ok(None);
     };
-    for place in 0..law.set.size() {
-        if law.set.member(place + 1) == row_number {
-            let whole = RowInt {
-                a: member_sides(alloc, qp, law, mults, place)?,
-                b: mults.at(place as usize, 0) as i128,
-            };
-            let row = without_divisor(alloc, whole)?;
-            return Ok(Some(row));
-        }
+    let whole = RowInt {
+        a: member_sides(alloc, qp, law, mults, place)?,
+        b: mults.at(place as usize, 0) as i128,
+    };
+    let row = without_divisor(alloc, whole)?;
+    Ok(Some(row))
+}
+
+/// The place of the row among the members, from 0, if it is one: most aren't, which the set's mask tells at once.
+fn member_place(set: ActiveSet, row: u32) -> Option<u32>
+    requires from_one { 1 ≤ row }
+    requires to_last { row ≤ 60 }
+    ensures { IsPlaceAmong set row result }
+{
+    if !set.has(row) {
+        return None;
     }
-    Ok(None)
+    place_among(set, row)
+}
+
+/// A row of a law, by its number from 1, where whole numbers serve.
+fn whole_row(
+    alloc: Global,
+    qp: &Qp,
+    law: &Law,
+    numbers: &RowNumbers,
+    unknowns: &LawNumbers,
+    row_number: u32,
+) -> Result<Option<RowInt>, NoMemory>
+    requires from_one { 1 ≤ row_number }
+    requires to_last { row_number ≤ height qp.now.g }
+    requires shape { HasLawShape qp.now law.now }
+    requires numbers { AreRowNumbers qp.now numbers.now }
+    requires unknowns { AreLawNumbers law.now numbers.now unknowns.now }
+    ensures { IfOk result (λ o. IfSome o (IsPlainRow qp.now law.now row_number)) }
+{
+    match member_place(law.set, row_number) {
+        Some(place) => member_row(alloc, qp, law, unknowns, row_number, place),
+        None => outside_row(alloc, qp, law, numbers, unknowns, row_number),
+    }
 }
 
 /// A row of a law, by its number from 1, which isn't too wide.
@@ -272,10 +304,7 @@ fn row_of(
     requires unknowns { AreLawNumbers law.now numbers.now unknowns.now }
     ensures { IfOk result (IsPlainRow qp.now law.now row_number) }
 {
-    if let Some(row) = outside_row(alloc, qp, law, numbers, unknowns, row_number)? {
-        return Ok(row);
-    }
-    if let Some(row) = member_row(alloc, qp, law, unknowns, row_number)? {
+    if let Some(row) = whole_row(alloc, qp, law, numbers, unknowns, row_number)? {
         return Ok(row);
     }
     match law_row(alloc, qp, law, row_number) {

@@ -2,8 +2,9 @@ use Rattle.std.proofs.Common.{◌≡◌, ◌+◌, ◌-◌, ◌<◌, ◌++◌, �
 use Rattle.std.specs.Int.{w64}
 use Rattle.mpc_exact.specs.Rational.{int, ◌*ℚ◌}
 use Rattle.mpc_space.specs.Vector.{coordinate}
+use Rattle.mpc_rows.specs.LawRows.{member_form}
 use Rattle.mpc_sweep.specs.Numbers.{number}
-use Rattle.mpc_tree.specs.WholeRows.{member_form, AreSides}
+use Rattle.mpc_tree.specs.WholeRows.{AreSides}
 use Rattle.mpc_tree.proofs.WholeRows.{read64, read_wide, sides_more, member_side}
 use Rattle.mpc_tree.proofs.rows.member_sides.Goals as goal
 
