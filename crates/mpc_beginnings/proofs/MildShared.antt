@@ -1,13 +1,10 @@
 -- Where further rows have room with what is kept of positions, all fits there; and what is kept of positions whose numbers are within one limit.
-use Rattle.std.proofs.Common.{◌≡◌, ℕ, zero, suc, ◌+◌, ◌-◌, ◌*◌, ◌^◌, ◌<◌, ◌≤◌, List, length, ℤ, ◌+ℤ◌, ◌*ℤ◌, unsigned_abs, sym, ◌∙◌, ap, subst, arith, le_trans, mul-le-mul_right, mul-le-mul_left, le-ltb, length-append}
+use Rattle.std.proofs.Common.{◌≡◌, ℕ, zero, suc, ◌+◌, ◌-◌, ◌*◌, ◌^◌, ◌<◌, ◌≤◌, List, length, ℤ, ◌+ℤ◌, ◌*ℤ◌, unsigned_abs, sym, ◌∙◌, ap, subst, arith, le_trans, mul-le-mul_right, mul-le-mul_left, length-append}
 use Rattle.std.proofs.lemmas.Nat.{mul-le}
 use Rattle.std.proofs.lemmas.Int.{unsigned_abs-mul}
-use Rattle.mpc_exact.specs.Rational.{frac}
-use Rattle.mpc_exact.proofs.IntRing.{int_mul_cancel}
-use Rattle.mpc_exact.proofs.Rational.{frac_same}
 use Rattle.mpc_rows.specs.declared.systems.Row.{Row as LinearRow}
 use Rattle.mpc_rows.specs.LinearSystem.{LinearSystem, height}
-use Rattle.mpc_rows.specs.Run.{goes_on, entering, count, rest, bound, turn, position, steps}
+use Rattle.mpc_rows.specs.Run.{goes_on, entering, count, turn, position, steps}
 use Rattle.mpc_rows.specs.RunWidth.{PositionFits}
 use Rattle.mpc_runs.specs.declared.variables.Seat.{Seat}
 use Rattle.mpc_runs.specs.declared.variables.Seat.TheVariants.{Column}
@@ -21,8 +18,7 @@ use Rattle.mpc_whole.specs.PositionTheorems.{PositionTheorems}
 use Rattle.mpc_whole.specs.Judged.{HasRoomAt, IsLeavingRow, IsSideJudged, IsRowFitting, most_variables, IsWeighedAt, IsMildForm, AreMildBefore, IsMildlyUnderway}
 use Rattle.mpc_whole.specs.Whole.{side_cell}
 use Rattle.mpc_scaled.specs.Scaled.{whole_at, whole_cell, scale_at, IsSmall, IsWholeSystem}
-use Rattle.mpc_runs.proofs.LeftSides.{bound-first}
-use Rattle.mpc_runs.proofs.Read.{rest_bound}
+use Rattle.mpc_runs.proofs.Read.{right_side, is_right_side}
 use Rattle.mpc_runs.proofs.Turn.{Goes, turn-at}
 use Rattle.mpc_runs.proofs.WholeSums.{abs-sum}
 use Rattle.mpc_beginnings.specs.Beginnings.{lengthened}
@@ -105,18 +101,6 @@ unfolding row_weight
 weighs_at_most weight a most top zero small h = omega arith
 weighs_at_most weight a most top (suc n) small h =
     one_more (row_weight weight a n) (unsigned_abs (a n)) (weight n) n most top (weighs_at_most weight a most top n small (λ j l. h j (omega arith))) (small n) (h n (omega arith))
-
--- the right side of a row, over its scale, is where its side stands
-right_side : (s : LinearSystem) (k : List ℕ) (a b : List ℤ) → IsWholeSystem s k a b → (y : ℕ) → y < count s → s.width ≤ y → (rest s y).first ≡ frac (whole_at b (y - s.width)) (scale_at k y)
-right_side s k a b w y h l =
-    let q : s.width + (y - s.width) ≡ y = omega arith in
-    ap (λ z. z.first) (rest_bound s y (le-ltb y s.width l)) ∙ ap (λ z. (bound s z).first) (sym q) ∙ bound-first s (y - s.width) ∙ w.sides.sides (y - s.width) (omega arith)
-    ∙ ap (λ z. frac (whole_at b (y - s.width)) (scale_at k z)) q
-
-is_right_side : (s : LinearSystem) (k : List ℕ) (a b : List ℤ) → IsWholeSystem s k a b → (y : ℕ) → y < count s → s.width ≤ y → (x : ℤ) → (rest s y).first ≡ frac x (scale_at k y) → whole_at b (y - s.width) ≡ x
-is_right_side s k a b w y h l x e =
-    let some : 0 < scale_at k y = w.scales.some y h in
-    int_mul_cancel (scale_at k y) some (frac_same (whole_at b (y - s.width)) (scale_at k y) x (scale_at k y) some some (sym (right_side s k a b w y h l) ∙ e))
 
 -- ---- with room for the further rows
 -- the size z of a number, with these factors

@@ -31,14 +31,11 @@ use mpc_rows::{Multipliers, PairPoint, Row, System};
 use mpc_runs::{End, Standing, zero, zero_pairs};
 use mpc_scaled::{WholeNumbers, WholeSystem};
 use mpc_whole::{
-    Ending, Place, RunLists, WidePlace, judged_run, last_multipliers, last_values, limit,
-    position_theorems, whole_run, wide_last_multipliers, wide_last_values,
+    Ending, MOST_VARIABLES, Place, RunLists, WidePlace, judged_run, last_multipliers, last_values,
+    limit, position_theorems, whole_run, wide_last_multipliers, wide_last_values,
 };
 use std::alloc::{AllocError, Global};
 use std::marker::Model;
-
-/// A system with further rows has at most so many variables where what is kept of the positions before serves.
-const MOST_VARIABLES: u128 = 1024;
 
 /// The numbers of the rows times their scales, with bounds of their sizes.
 fn numbers_of(system: &WholeSystem) -> WholeNumbers

@@ -1,11 +1,15 @@
 -- What the code's words read.
-use Rattle.std.proofs.Common.{◌≡◌, ℕ, ◌+◌, ◌-◌, ◌<◌, ◌≤◌, Bool, ◌&&◌, ◌||◌, true, false, cond, length, pos, negsuc, refl, ◌∙◌, ap, arith, ltb-true, ltb-false}
+use Rattle.std.proofs.Common.{◌≡◌, ℕ, ◌+◌, ◌-◌, ◌<◌, ◌≤◌, Bool, ◌&&◌, ◌||◌, true, false, cond, List, length, ℤ, pos, negsuc, refl, sym, ◌∙◌, ap, arith, le-ltb, ltb-true, ltb-false}
 use Rattle.std.proofs.lemmas.Bool.{cond-true, cond-false, both_ways}
-use Rattle.mpc_exact.specs.Rational.{int}
+use Rattle.mpc_exact.specs.Rational.{int, frac}
+use Rattle.mpc_exact.proofs.IntRing.{int_mul_cancel}
+use Rattle.mpc_exact.proofs.Rational.{frac_same}
 use Rattle.mpc_space.specs.Total.{unit}
 use Rattle.mpc_rows.specs.declared.systems.Row.{Row}
 use Rattle.mpc_rows.specs.LinearSystem.{LinearSystem, row_at, entry}
 use Rattle.mpc_rows.specs.Run.{count, is_unknown, bound, rest, opening}
+use Rattle.mpc_scaled.specs.Scaled.{whole_at, scale_at, IsWholeSystem}
+use Rattle.mpc_runs.proofs.LeftSides.{bound-first}
 
 pub or_then : (a b x : Bool) → x ≡ a → x ≡ true → x ≡ (a || b)
 or_then true b x e t = e
@@ -65,3 +69,17 @@ module _ (s : LinearSystem) (x : ℕ) where
 
 pub within : {u w i h n : ℕ} → u ≡ w → i < h → n ≡ w + h → u + i < n
 within {u} {w} {i} {h} {n} e l k = omega arith
+
+-- ---- in whole numbers
+-- the right side of a row, over its scale, is where its side stands
+pub right_side : (s : LinearSystem) (k : List ℕ) (a b : List ℤ) → IsWholeSystem s k a b → (y : ℕ) → y < count s → s.width ≤ y → (rest s y).first ≡ frac (whole_at b (y - s.width)) (scale_at k y)
+right_side s k a b w y h l =
+    let q : s.width + (y - s.width) ≡ y = omega arith in
+    ap (λ z. z.first) (rest_bound s y (le-ltb y s.width l)) ∙ ap (λ z. (bound s z).first) (sym q) ∙ bound-first s (y - s.width) ∙ w.sides.sides (y - s.width) (omega arith)
+    ∙ ap (λ z. frac (whole_at b (y - s.width)) (scale_at k z)) q
+
+-- so it is the numerator of that
+pub is_right_side : (s : LinearSystem) (k : List ℕ) (a b : List ℤ) → IsWholeSystem s k a b → (y : ℕ) → y < count s → s.width ≤ y → (x : ℤ) → (rest s y).first ≡ frac x (scale_at k y) → whole_at b (y - s.width) ≡ x
+is_right_side s k a b w y h l x e =
+    let some : 0 < scale_at k y = w.scales.some y h in
+    int_mul_cancel (scale_at k y) some (frac_same (whole_at b (y - s.width)) (scale_at k y) x (scale_at k y) some some (sym (right_side s k a b w y h l) ∙ e))

@@ -1,13 +1,6 @@
 -- What a weight is at least, so that a number in a column is weighed by it.
-use Rattle.std.proofs.Common.{◌≡◌, ℕ, ◌+◌, ◌-◌, ◌*◌, ◌<◌, ◌≤◌, List, ℤ, sym, ◌∙◌, ap, arith, le_trans, le-ltb, mul-le-mul_left}
-use Rattle.mpc_exact.specs.Rational.{frac}
-use Rattle.mpc_exact.proofs.IntRing.{int_mul_cancel}
-use Rattle.mpc_exact.proofs.Rational.{frac_same}
+use Rattle.std.proofs.Common.{ℕ, ◌*◌, ◌≤◌, List, ℤ, arith, le_trans, mul-le-mul_left}
 use Rattle.mpc_rows.specs.LinearSystem.{LinearSystem}
-use Rattle.mpc_rows.specs.Run.{count, rest, bound}
-use Rattle.mpc_runs.proofs.LeftSides.{bound-first}
-use Rattle.mpc_runs.proofs.Read.{rest_bound}
-use Rattle.mpc_scaled.specs.Scaled.{whole_at, scale_at, IsWholeSystem}
 use Rattle.mpc_whole.specs.Judged.{IsWeighedAt}
 
 -- a product with a scale and a factor is at most that with a weight
@@ -31,11 +24,3 @@ weighs_more s k e top size y z w m h l = record {
   first = λ side x q. le_trans (h.first side x q) l;
   second = le_trans h.second l;
 }
-
--- the right side of a side's row is the numerator of its bound's first part over the scale
-pub is_right_side : (s : LinearSystem) (k : List ℕ) (a b : List ℤ) → IsWholeSystem s k a b → (y : ℕ) → y < count s → s.width ≤ y → (x : ℤ) → (rest s y).first ≡ frac x (scale_at k y) → whole_at b (y - s.width) ≡ x
-is_right_side s k a b w y h l x e =
-    let q : s.width + (y - s.width) ≡ y = omega arith in
-    let some : 0 < scale_at k y = w.scales.some y h in
-    let own = ap (λ z. z.first) (rest_bound s y (le-ltb y s.width l)) ∙ ap (λ z. (bound s z).first) (sym q) ∙ bound-first s (y - s.width) ∙ w.sides.sides (y - s.width) (omega arith) ∙ ap (λ z. frac (whole_at b (y - s.width)) (scale_at k z)) q in
-    int_mul_cancel (scale_at k y) some (frac_same (whole_at b (y - s.width)) (scale_at k y) x (scale_at k y) some some (sym own ∙ e))

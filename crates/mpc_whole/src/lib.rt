@@ -21,6 +21,7 @@ mod wide_values;
 pub use judged::{WidePlace, judged_run};
 pub use lists::{RunLists, WideLists};
 pub use theorems::position_theorems;
+pub use weights::MOST_VARIABLES;
 pub use whole::{Ending, Place, whole_run};
 pub use whole_ends::{last_multipliers, last_values, wide_last_multipliers, wide_last_values};
 pub use whole_rows::{limit, put_units};

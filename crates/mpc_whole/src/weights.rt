@@ -14,7 +14,7 @@ use crate::judged::WidePlace;
 use mpc_scaled::WholeSystem;
 
 /// A system with further rows has at most so many variables where the weights serve.
-const MOST_VARIABLES: u128 = 1024;
+pub const MOST_VARIABLES: u128 = 1024;
 
 /// What a number in the column of a variable is multiplied by at most, as a weight counts it, if that fits.
 fn weight_of(

@@ -1,6 +1,7 @@
 use Rattle.std.proofs.Common.{◌*◌, ◌<◌, ◌≤◌, unsigned_abs, arith, subst}
+use Rattle.mpc_runs.proofs.Read.{is_right_side}
 use Rattle.mpc_scaled.specs.Scaled.{scale_at}
-use Rattle.mpc_whole.proofs.WeighedNumbers.{with_factor, with_side, is_right_side}
+use Rattle.mpc_whole.proofs.WeighedNumbers.{with_factor, with_side}
 use Rattle.mpc_whole.proofs.weights.weight_of.Goals as goal
 
 pub returns : goal.returns
