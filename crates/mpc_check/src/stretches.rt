@@ -9,11 +9,11 @@ use std::alloc::Global;
 /// The most stretches of a list, each of which may take a thread.
 const MOST_STRETCHES: usize = 16;
 
-/// The fewest nodes for which a thread of their own is worth its start: they take some milliseconds.
-pub const FEWEST_NODES: usize = 1024;
+/// The fewest nodes for which a thread of their own is worth its start: they take a millisecond and more.
+pub const FEWEST_NODES: usize = 512;
 
-/// The fewest laws for which a thread of their own is worth its start: they take some milliseconds.
-pub const FEWEST_LAWS: usize = 256;
+/// The fewest laws for which a thread of their own is worth its start: they take half a millisecond and more.
+pub const FEWEST_LAWS: usize = 32;
 
 /// Neighbouring places of a list: those `from`, counted from 0, to before `to`.
 #[derive(Clone, Copy, Debug, Drop)]
