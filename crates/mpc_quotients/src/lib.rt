@@ -11,8 +11,8 @@ pub use divisors::Divisor;
 pub use short_numbers::short_changed;
 pub use theorems::over_theorems;
 pub use whole_numbers::{
-    Sums, changed, minus, row_times, row_times_column, small, small_quotient, sum, turned,
-    wide_row_times, widened,
+    Sums, changed, four_row_times_column, minus, row_times, row_times_column, small,
+    small_quotient, sum, turned, wide_row_times, widened,
 };
 pub use wide_numbers::{
     WideDivisor, are_short, column_value, divide_all, goes_into, positive, product_of,

@@ -214,3 +214,19 @@ pub fn row_times_column(
     }
     total
 }
+
+/// The same of four columns: so few products are summed up without a loop.
+#[inline]
+pub fn four_row_times_column(matrix: &[i64], row: usize, numbers: &[i64], column: usize) -> i64
+    requires inside { row * 4 + 4 ≤ length matrix.now }
+    requires square { length numbers.now ≡ 16 }
+    requires column { column < 4 }
+    requires result_small { unsigned_abs (whole_total 4 (λ j. whole_cell 4 matrix.now row j *ℤ whole_cell 4 numbers.now j column)) ≤ 2 ^ 62 }
+    ensures { result ≡ whole_total 4 (λ j. whole_cell 4 matrix.now row j *ℤ whole_cell 4 numbers.now j column) }
+{
+    let from = row * 4;
+    let one = wrapped(0, matrix[from], numbers[column]);
+    let two = wrapped(one, matrix[from + 1], numbers[column + 4]);
+    let three = wrapped(two, matrix[from + 2], numbers[column + 8]);
+    wrapped(three, matrix[from + 3], numbers[column + 12])
+}
