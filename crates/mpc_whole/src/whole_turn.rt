@@ -18,7 +18,7 @@ ghost use Rattle.mpc_whole.specs.Running.{HasNumbers, IsFrame, AreParts, AreShor
 use crate::frames::Frame;
 use crate::whole::Place;
 use crate::whole_values::step_of;
-use mpc_quotients::{Sums, row_times, row_times_column};
+use mpc_quotients::{Sums, four_row_times_column, row_times, row_times_column};
 use mpc_runs::{Seat, is_basic};
 use mpc_scaled::{WholeSystem, product, signed};
 
@@ -148,6 +148,19 @@ pub(crate) fn leaving(
     first_out(system, frame, seats, firsts, seconds, place, Sums::Short)
 }
 
+/// The row of a side, where there are four unknowns.
+fn four_side_row(row: &mut [i64], entries: &[i64], numbers: &[i64], side: usize)
+    requires entries { side * 4 + 4 ≤ length entries.now }
+    requires square { length numbers.now ≡ 16 }
+    requires row_room { length row.old ≡ 4 }
+    requires row_small { (column : ℕ) → column < 4 → unsigned_abs (whole_total 4 (λ unknown. whole_cell 4 entries.now side unknown *ℤ whole_cell 4 numbers.now unknown column)) ≤ 2 ^ 62 }
+    ensures cells { (column : ℕ) → column < 4 → whole_at row.new column ≡ whole_total 4 (λ unknown. whole_cell 4 entries.now side unknown *ℤ whole_cell 4 numbers.now unknown column) }
+{
+    for column in 0..4 {
+        row[column] = four_row_times_column(entries, side, numbers, column);
+    }
+}
+
 /// The row of a side.
 fn side_row(row: &mut [i64], system: &WholeSystem, entries: &[i64], numbers: &[i64], side: usize)
     requires side { side < height system.now }
@@ -158,6 +171,9 @@ fn side_row(row: &mut [i64], system: &WholeSystem, entries: &[i64], numbers: &[i
     ensures cells { (column : ℕ) → column < system.now.width → whole_at row.new column ≡ whole_total system.now.width (λ unknown. whole_cell system.now.width entries.now side unknown *ℤ whole_cell system.now.width numbers.now unknown column) }
 {
     let width = system.unknowns();
+    if width == 4 {
+        return four_side_row(row, entries, numbers, side);
+    }
     for column in 0..width {
         row[column] = row_times_column(entries, side, numbers, width, column);
     }

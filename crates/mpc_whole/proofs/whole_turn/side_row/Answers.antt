@@ -26,3 +26,8 @@ loop-column-preserved c =
     let cell = λ (w k : ℕ). whole_total w (λ j. whole_cell w c.args.entries.now c.args.side j *ℤ whole_cell w c.args.numbers.now j k) in
     set_below c.loop-column.row c.loop-column.column (to_z w64 (of_z w64 c.row_times_column.result)) b (cell c.args.system.now.width) c.loop-column.invariant
     (back64 c.row_times_column.result c.row_times_column.type_inv ∙ c.row_times_column.ensures ∙ ap (λ w. cell w c.loop-column.column) c.unknowns-width.ensures)
+
+pub four_side_row-requires-clause-row_small : goal.four_side_row-requires-clause-row_small
+four_side_row-requires-clause-row_small c =
+    subst (λ w. (column : ℕ) → column < w → unsigned_abs (whole_total w (λ j. whole_cell w c.args.entries.now c.args.side j *ℤ whole_cell w c.args.numbers.now j column)) ≤ 2 ^ 62)
+    (sym c.unknowns-width.ensures ∙ c.if-width-eq4.true) c.requires.row_small
