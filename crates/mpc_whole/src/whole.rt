@@ -79,8 +79,9 @@ pub enum Ending {
     Refuted(usize),
 }
 
-/// Where a run stands: its denominator, the greatest size of a number there, the greatest number and the
-/// greatest denominator of the positions before, and the first variable that may leave.
+/// Where a run stands: its denominator, a bound of the sizes of the numbers there, which is at most the greatest size up
+/// to there, the greatest number and the greatest denominator of the positions before, and the first variable that may
+/// leave.
 #[derive(Clone, Copy, Drop)]
 pub struct Place {
     pub den: u64,
@@ -127,7 +128,7 @@ fn advance(
 {
     let column = column_of(&lists.seats, entering);
     let by = Divisor::of(place.den);
-    let own = exchange(&mut lists.numbers, row, column, by, frame.most)?;
+    let own = exchange(&mut lists.numbers, row, column, by, frame.most, place.own)?;
     swap(
         &mut lists.seats,
         &mut lists.nonbasic,

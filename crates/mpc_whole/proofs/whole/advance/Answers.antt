@@ -55,6 +55,9 @@ exchange-requires-clause-most_small c = c.requires.frame.most_small
 pub exchange-requires-clause-small : goal.exchange-requires-clause-small
 exchange-requires-clause-small c = subst (λ (u : List ℤ). IsSmall c.args.frame.now.most u) (sym c.deref_mut.ensures.value) c.requires.held.small
 
+pub exchange-requires-clause-before : goal.exchange-requires-clause-before
+exchange-requires-clause-before c = subst (λ (u : List ℤ). IsSmall c.args.place.own u) (sym c.deref_mut.ensures.value) c.requires.lists.own
+
 pub swap-requires-clause-leaves_below : goal.swap-requires-clause-leaves_below
 swap-requires-clause-leaves_below c = rw c.deref_mut-2.ensures.value (subst (λ m. c.args.leaving < m) (sym c.requires.lists.seated.each) (leaver_in c.requires.frame.numbers.whole c.requires.lists c.requires.turns))
 

@@ -48,3 +48,6 @@ pub returns-clause-pivot : goal.returns-clause-pivot
 returns-clause-pivot c =
     pivot_whole (length c.args.row.now) c.args.by.den c.args.numbers.now c.loop-unknown.numbers c.args.row.now c.args.pivot_column c.requires.den_some c.requires.column
     (λ j k h l. c.loop-unknown.invariant.done j k (let t = c.loop-unknown-test.false in omega arith) l)
+
+pub change_row-requires-clause-top : goal.change_row-requires-clause-top
+change_row-requires-clause-top c = λ k l. subst (λ z. unsigned_abs z ≤ c.args.top) (sym (c.loop-unknown.invariant.kept k l)) (c.requires.before.each k)
