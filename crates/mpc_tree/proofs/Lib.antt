@@ -9,6 +9,7 @@ pub mod Dividing
 pub mod Ending
 pub mod Joining
 pub mod PieceLemmas
+pub mod GroupLemmas
 pub mod Sides
 pub mod BorderLists
 pub mod WholeRows

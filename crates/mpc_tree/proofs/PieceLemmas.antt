@@ -95,6 +95,27 @@ module _ (qp : Qp) (laws : List Law) where
       by number place (inl v) = inl (alone_wide x number place (h.wide number place v))
       by number place (inr v) = inr (v.0, alone x v.0 (h.filled v.0 v.1), v.2)
 
+  -- ---- pieces in two parts that are both finer
+  filled_both : (a b : List Piece) (m n : List Node) → AreFilled qp laws a m → AreFilled qp laws b n → AreFilled qp laws (a ++ b) (m ++ n)
+  filled_both [] b m n f g = subst (λ l. AreFilled qp laws b (l ++ n)) (sym f) g
+  filled_both (p ∷ ps) b m n f g = (f.0, f.1 ++ n, ap (λ l. l ++ n) f.2 ∙ append_assoc f.0 f.1 n, f.3, filled_both ps b f.1 n f.4 g)
+
+  wide_after : (a b : List Piece) (m : List Node) (number : ℕ) (place : Place) → AreFilled qp laws a m → IsWideAmong qp laws b (number + length m) place → IsWideAmong qp laws (a ++ b) number place
+  wide_after [] b m number place f w = (let none : length m ≡ 0 = ap length f in subst (λ n. IsWideAmong qp laws b n place) (omega (arith, none)) w)
+  wide_after (p ∷ ps) b m number place f w =
+      let both : length m ≡ length f.0 + length f.1 = ap length f.2 ∙ length-append f.0 f.1 in
+      inr (f.0, f.3, wide_after ps b f.1 (number + length f.0) place f.4 (subst (λ n. IsWideAmong qp laws b n place) (omega (arith, both)) w))
+
+  pub finer_both : (a b c d : List Piece) → IsFiner qp laws a b → IsFiner qp laws c d → IsFiner qp laws (a ++ c) (b ++ d)
+  finer_both a b c d g h = record {
+    filled = λ nodes f. let s = filled_parts b d nodes f in subst (AreFilled qp laws (a ++ c)) (sym s.2) (filled_both a c s.0 s.1 (g.filled s.0 s.3) (h.filled s.1 s.4));
+    wide = λ number place w. by number place (wide_parts b d number place w);
+  }
+    where
+      by : (number : ℕ) (place : Place) → IsWideAmong qp laws b number place ⊎ ((m : List Node) × AreFilled qp laws b m × IsWideAmong qp laws d (number + length m) place) → IsWideAmong qp laws (a ++ c) number place
+      by number place (inl v) = wide_before a c number place (g.wide number place v)
+      by number place (inr v) = wide_after a c v.0 number place (g.filled v.0 v.1) (h.wide (number + length v.0) place v.2)
+
   -- a piece between others
   pub finer_between : (whole done new rest : List Piece) (x : Piece) → IsFiner qp laws whole (done ++ x ∷ rest) → IsFiner qp laws (x ∷ []) new → IsFiner qp laws whole ((done ++ new) ++ rest)
   finer_between whole done new rest x g h =

@@ -1,5 +1,7 @@
 -- A tree in pieces, in preorder: nodes, and cells whose trees aren't built.
-use Rattle.std.specs.Prelude.{◌≡◌, ℕ, ◌+◌, ◌⊎◌, List, [], ◌∷◌, ◌++◌, length, Option, Some, slice_get, slice_set, ⊤}
+use Rattle.std.specs.Prelude.{◌≡◌, ℕ, ◌+◌, ◌⊎◌, List, [], ◌∷◌, ◌++◌, length, Option, Some, Result, Ok, Err, slice_get, slice_set, ⊤}
+use Rattle.std.specs.Global.{Vec}
+use Rattle.mpc_frac.specs.declared.NoMemory.{NoMemory}
 use Rattle.mpc_linear.specs.declared.integers.RowInt.{RowInt}
 use Rattle.mpc_rows.specs.declared.programs.Qp.{Qp}
 use Rattle.mpc_rows.specs.declared.laws.Law.{Law}
@@ -86,3 +88,14 @@ with_drawn pieces (d ∷ ds) = with_drawn (slice_set pieces d.piece d.built) ds
 -- a refused cell is the last piece
 abbrev pub EndsRefused : List Piece → Type 0
 EndsRefused pieces = (front : List Piece) × (place : Place) × (pieces ≡ front ++ Refused place ∷ [])
+
+-- the pieces of the groups, one group behind the other
+abbrev pub all_of : List (Vec Piece) → List Piece
+all_of [] = []
+all_of (g ∷ gs) = g.items ++ all_of gs
+
+-- the pieces are those of the groups, one group behind the other, as far as a refused cell
+abbrev pub AreJoined : List (Result (Vec Piece) NoMemory) → List Piece → Type 0
+AreJoined [] pieces = pieces ≡ []
+AreJoined (Err e ∷ gs) pieces = ⊥
+AreJoined (Ok g ∷ gs) pieces = ((pieces ≡ g.items) × EndsRefused g.items) ⊎ ((rest : List Piece) × (pieces ≡ g.items ++ rest) × AreJoined gs rest)

@@ -1,16 +1,17 @@
 //! The upper part of the tree, which is grown in preorder at first and then breadth-first, with the cells that are left open below.
 
-ghost use Rattle.std.specs.Prelude.{◌≡◌, ◌<◌, ◌^◌, ◌∷◌, [], All, IfOk, IfSome, IsTrue, length, unsigned_abs};
+ghost use Rattle.std.specs.Prelude.{◌≡◌, ◌<◌, ◌≤◌, ◌^◌, ◌∷◌, [], All, IfOk, IfSome, IsTrue, length, unsigned_abs};
 ghost use Rattle.mpc_linear.specs.Whole.{AreSmall};
 ghost use Rattle.mpc_tree.specs.Borders.{AreBorders};
 ghost use Rattle.mpc_tree.specs.CellRuns.{IsRunOf};
 ghost use Rattle.mpc_tree.specs.Growth.{IsReady, RegionsCover};
-ghost use Rattle.mpc_tree.specs.Pieces.{AreSides, EndsRefused, IsOpen, IsFiner};
+ghost use Rattle.mpc_tree.specs.Pieces.{AreSides, AreJoined, EndsRefused, IsOpen, IsFiner, all_of};
 
 use crate::borders::Border;
 use crate::errors::TreeError;
 use crate::nodes::{Placed, Visit, place_node};
 use crate::runs::{KeptCell, copied_rows};
+use crate::threads::Grow;
 use mpc_frac::NoMemory;
 use mpc_linear::RowInt;
 use mpc_rows::{LawTable, Node, Place, Qp, Tree};
@@ -19,7 +20,7 @@ use mpc_systems::{broken_row, cell_theorems, whole_row};
 use std::alloc::Global;
 
 /// How many open cells are enough: of fewer, one may take most of the time on four threads, and more would leave
-/// more of the tree to the caller.
+/// more of the tree to rounds, each of which takes as long as its slowest group.
 const ENOUGH: usize = 40;
 
 /// So many nodes are grown first, one after another in preorder: where one of them is refused, no cell
@@ -192,20 +193,97 @@ fn finer(
     Ok(finer)
 }
 
-/// How many of the pieces are open cells.
-pub fn open_cells(pieces: &[Piece]) -> usize {
-    pieces
-        .iter()
-        .filter(|piece| match piece {
-            Piece::Open { .. } => true,
-            _ => false,
-        })
-        .count()
+/// The pieces with each open cell divided, in the same order, as far as a refused cell.
+pub fn all_divided(
+    alloc: Global,
+    qp: &Qp,
+    laws: &LawTable,
+    borders: &[Border],
+    pieces: Vec<Piece>,
+) -> Result<Vec<Piece>, NoMemory>
+    requires few { length laws.now < 2 ^ 32 }
+    requires borders { AreBorders qp.now laws.now borders.now }
+    requires cover { RegionsCover qp.now laws.now }
+    requires open { All (IsOpen qp.now laws.now) pieces.items }
+    ensures open { IfOk result (λ finer. All (IsOpen qp.now laws.now) finer.items) }
+    ensures finer { IfOk result (λ finer. IsFiner qp.now laws.now pieces.items finer.items) }
+{
+    let mut work = Workspace::new(alloc);
+    finer(alloc, &mut work, qp, laws, borders, pieces, usize::MAX)
 }
 
-/// The tree of the cell in pieces, as far as the first cell that is refused: divided in preorder at
-/// first, and then breadth-first, until enough cells are open, or none.
-pub fn pieces_of(
+/// Whether the piece is an open cell.
+fn is_open(piece: &Piece) -> bool {
+    match piece {
+        Piece::Open { .. } => true,
+        _ => false,
+    }
+}
+
+/// How many of the pieces are open cells.
+pub fn open_cells(pieces: &[Piece]) -> usize {
+    pieces.iter().filter(|piece| is_open(piece)).count()
+}
+
+/// How many pieces there are as far as the first so many open cells.
+fn pieces_up_to(pieces: &[Piece], cells: usize) -> usize
+    ensures { result ≤ length pieces.now }
+{
+    let mut left = cells;
+    for place in 0..pieces.len() {
+        if left == 0 {
+            return place;
+        }
+        if is_open(&pieces[place]) {
+            left -= 1;
+        }
+    }
+    pieces.len()
+}
+
+/// The pieces cut into so many groups of neighbours, at least one, with about as many open cells each.
+pub fn groups(
+    alloc: Global,
+    mut pieces: Vec<Piece>,
+    count: usize,
+) -> Result<Vec<Vec<Piece>>, NoMemory>
+    ensures { IfOk result (λ groups. all_of groups.items ≡ pieces.items) }
+{
+    let mut groups = Vec::new(alloc);
+    for behind in (1..count).rev() {
+        let cells = open_cells(&pieces) / (behind + 1);
+        let front = pieces_up_to(&pieces, cells);
+        let rest = pieces.split_off(front)?;
+        groups.push(pieces)?;
+        pieces = rest;
+    }
+    groups.push(pieces)?;
+    Ok(groups)
+}
+
+/// The groups of pieces as one list, one behind the other, as far as a refused cell.
+pub fn joined_groups(
+    alloc: Global,
+    groups: Vec<Result<Vec<Piece>, NoMemory>>,
+) -> Result<Vec<Piece>, NoMemory>
+    ensures { IfOk result (λ pieces. AreJoined groups.items pieces.items) }
+{
+    let mut pieces = Vec::new(alloc);
+    for group in groups {
+        let mut new = group?;
+        let refused = ends_refused(&new);
+        pieces.append(&mut new)?;
+        if refused {
+            return Ok(pieces);
+        }
+    }
+    Ok(pieces)
+}
+
+/// The tree of the cell in pieces, as far as the first cell that is refused: divided in preorder by the
+/// caller at first, and then breadth-first, until enough cells are open, or none.
+pub fn pieces_of<G: Grow>(
+    by: &G,
     alloc: Global,
     qp: &Qp,
     laws: &LawTable,
@@ -229,8 +307,11 @@ pub fn pieces_of(
         if open == 0 || ENOUGH <= open {
             break;
         }
-        let most = if round < FIRST_NODES { 1 } else { open };
-        pieces = finer(alloc, &mut work, qp, laws, borders, pieces, most)?;
+        pieces = if round < FIRST_NODES {
+            finer(alloc, &mut work, qp, laws, borders, pieces, 1)?
+        } else {
+            by.all_finer(alloc, qp, laws, borders, pieces)?
+        };
     }
     Ok(pieces)
 }

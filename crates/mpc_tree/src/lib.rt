@@ -46,8 +46,8 @@ use threads::grown_by;
 /// certificate of the box, the cell and all rows of the program. They are the multipliers at the
 /// ends of the runs of the simplex method by least numbers that decide the leaf.
 ///
-/// Where `by` has threads, the cells below the upper part of a large tree are built at once, and the
-/// tree is the same whether they are or not. Where one is refused, what comes after it in preorder is given up.
+/// Where `by` has threads, cells of the upper part of a large tree are divided at once, and so are those
+/// below it built. The tree is the same whether they are or not. Where one is refused, what comes after it in preorder is given up.
 ///
 /// `Wide` names the first run, node by node in preorder, with a number that needs more than 128 bits.
 pub fn build<G: Grow>(by: &G, alloc: Global, qp: &Qp, laws: &LawTable) -> Result<Tree, TreeError>

@@ -5,17 +5,17 @@ ghost use Rattle.mpc_tree.specs.Borders.{AreBorders};
 ghost use Rattle.mpc_tree.specs.Causes.{IfWide};
 ghost use Rattle.mpc_tree.specs.CellRuns.{IsRunOf};
 ghost use Rattle.mpc_tree.specs.Growth.{IsReady, RegionsCover, IsBuilt};
-ghost use Rattle.mpc_tree.specs.Pieces.{cell_at, Becomes, IsOpen, IsOfPiece, IsWideIn, AreFilled, IsWideAmong, IsDrawn, with_drawn};
+ghost use Rattle.mpc_tree.specs.Pieces.{cell_at, Becomes, IsOpen, IsOfPiece, IsWideIn, AreFilled, IsWideAmong, IsDrawn, IsFiner, with_drawn};
 ghost use Rattle.mpc_tree.specs.Joins.{place_behind, IsWideBehind};
 ghost use Rattle.mpc_tree.specs.WideRuns.{IsFirstWide};
 
 use crate::borders::Border;
 use crate::errors::{Stop, TreeError};
-use crate::frontier::{Piece, open_cells, pieces_of};
+use crate::frontier::{Piece, all_divided, groups, joined_groups, open_cells, pieces_of};
 use crate::growth::{grown, grown_alone};
 use crate::refusals::{Refusals, Watch, is_called_off};
 use crate::runs::{KeptCell, copied_rows};
-use mpc_forks::map_indices;
+use mpc_forks::{map_indices, map_vec};
 use mpc_frac::NoMemory;
 use mpc_rows::{LawTable, Place, Qp, Tree};
 use std::alloc::Global;
@@ -28,6 +28,9 @@ const MANY_LAWS: usize = 60;
 
 /// How many open cells there are for a thread at least: of fewer, one may take most of the time.
 const CELLS_A_THREAD: usize = 4;
+
+/// How many open cells of the upper part there are for a thread in a round at least: one alone isn't worth its start.
+const DIVIDED_A_THREAD: usize = 2;
 
 /// What the open cell at a place among the pieces has become: its tree, or its refusal.
 #[derive(Drop)]
@@ -102,12 +105,31 @@ fn draw(
     Ok(drawn)
 }
 
-/// How the cells that are open below the upper part of a tree are built. The bodies that stand here leave them to the caller; what has
-/// [`Threads`] shares them out.
+/// How the upper part of a tree is divided and the cells that are open below it are built. The bodies that stand here leave them to the
+/// caller; what has [`Threads`] shares them out.
 pub trait Grow {
     /// How many threads may build cells at once.
     fn threads_at_once(&self) -> usize {
         1
+    }
+
+    /// The pieces with each open cell divided, in the same order, as far as a refused cell.
+    fn all_finer(
+        &self,
+        alloc: Global,
+        qp: &Qp,
+        laws: &LawTable,
+        borders: &[Border],
+        pieces: Vec<Piece>,
+    ) -> Result<Vec<Piece>, NoMemory>
+        requires few { length laws.now < 2 ^ 32 }
+        requires borders { AreBorders qp.now laws.now borders.now }
+        requires cover { RegionsCover qp.now laws.now }
+        requires open { All (IsOpen qp.now laws.now) pieces.items }
+        ensures open { IfOk result (λ finer. All (IsOpen qp.now laws.now) finer.items) }
+        ensures finer { IfOk result (λ finer. IsFiner qp.now laws.now pieces.items finer.items) }
+    {
+        all_divided(alloc, qp, laws, borders, pieces)
     }
 
     /// What becomes of the open cells among the pieces, by the threads that have drawn them, at most so
@@ -131,12 +153,31 @@ pub trait Grow {
     }
 }
 
-/// As many threads as the machine runs at once draw the cells.
+/// As many threads as the machine runs at once divide groups of neighbouring cells, and draw those that are open below.
 impl<T: Threads> Grow for T {
     fn threads_at_once(&self) -> usize {
         match available_parallelism(self) {
             Ok(at_once) => at_once.get(),
             Err(_) => 1,
+        }
+    }
+
+    fn all_finer(
+        &self,
+        alloc: Global,
+        qp: &Qp,
+        laws: &LawTable,
+        borders: &[Border],
+        pieces: Vec<Piece>,
+    ) -> Result<Vec<Piece>, NoMemory> {
+        let count = self
+            .threads_at_once()
+            .min(open_cells(&pieces) / DIVIDED_A_THREAD);
+        let groups = groups(alloc, pieces, count)?;
+        let divide = |group: Vec<Piece>| all_divided(alloc, qp, laws, borders, group);
+        match map_vec(self, groups, &divide) {
+            Ok(groups) => joined_groups(alloc, groups),
+            Err(_) => Err(NoMemory),
         }
     }
 
@@ -253,9 +294,9 @@ fn joined(
     Ok(tree)
 }
 
-/// The tree of the cell with these rows, whose search goes on with the next law. Its upper part is
-/// grown by the caller, and the cells that are open below are built by as many threads as there may be
-/// at once. Where that is one, nothing is cut. `Wide` numbers the nodes from 1.
+/// The tree of the cell with these rows, whose search goes on with the next law. The cells
+/// of its upper part are divided and those that are open below are built by as many threads as there may
+/// be at once. Where that is one, nothing is cut. `Wide` numbers the nodes from 1.
 pub fn grown_by<G: Grow>(
     by: &G,
     alloc: Global,
@@ -277,7 +318,7 @@ pub fn grown_by<G: Grow>(
     if most < 2 || laws.len() < MANY_LAWS {
         return grown_alone(alloc, qp, laws, borders, cell, next);
     }
-    let mut pieces = pieces_of(alloc, qp, laws, borders, cell, next)?;
+    let mut pieces = pieces_of(by, alloc, qp, laws, borders, cell, next)?;
     let hands = by.all_drawn(alloc, qp, laws, borders, &pieces, most)?;
     for hand in hands {
         lay_all(&mut pieces, hand?);
