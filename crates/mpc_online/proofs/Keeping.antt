@@ -1,10 +1,10 @@
 -- Directions that are kept.
-use Rattle.std.proofs.Common.{◌≡◌, ◌∙◌, ℕ, ◌<◌, ◌≤◌, List, length, get_or, sym, ap, subst, Option, Some, None, arith}
-use Rattle.std.specs.List.{insert}
-use Rattle.std.proofs.lemmas.List.Elements.{All-append, All-cons, All-take, All-drop}
-use Rattle.std.proofs.lemmas.List.Edits.{get_or-insert_at, length-insert}
+use Rattle.std.proofs.Common.{◌≡◌, ◌∙◌, ℕ, ◌<◌, List, length, get_or, refl, sym, ap, subst, Option, Some, None, arith}
+use Rattle.std.proofs.lemmas.List.Elements.{All-append, All-cons, All-nil}
+use Rattle.std.proofs.Math.Seq.{get_or-append_seam}
+use Rattle.std.proofs.lemmas.List.{length-append}
 use Rattle.std.proofs.lemmas.Option.{slice_get-get_or, slice_get_within, get_or_from_slice_get}
-use Rattle.std.specs.Prelude.{take, drop, ◌∷◌, All, MatchOption}
+use Rattle.std.specs.Prelude.{[], ◌∷◌, ◌++◌, All, MatchOption}
 use Rattle.mpc_rows.specs.declared.programs.Qp.{Qp}
 use Rattle.mpc_online.specs.declared.prepared.Direction.{Direction}
 use Rattle.mpc_online.specs.declared.prepared.KeptDirection.{KeptDirection}
@@ -14,15 +14,15 @@ use Rattle.mpc_online.specs.Widths.{EliminationFits}
 use Rattle.mpc_online.specs.Shared.{IsDirectionOf, IsKeptDirection, IsKeptAt}
 
 -- one more is kept
-pub kept_too : (qp : Qp) (ds : List KeptDirection) (k : ℕ) (d : KeptDirection) → All (IsKeptDirection qp) ds → IsKeptDirection qp d → All (IsKeptDirection qp) (insert ds k d)
-kept_too qp ds k d h i = All-append (IsKeptDirection qp) (take k ds) (d ∷ drop k ds) (All-take (IsKeptDirection qp) k ds h) (All-cons (IsKeptDirection qp) d (drop k ds) i (All-drop (IsKeptDirection qp) k ds h))
+pub kept_too : (qp : Qp) (ds : List KeptDirection) (d : KeptDirection) → All (IsKeptDirection qp) ds → IsKeptDirection qp d → All (IsKeptDirection qp) (ds ++ d ∷ [])
+kept_too qp ds d h i = All-append (IsKeptDirection qp) ds (d ∷ []) h (All-cons (IsKeptDirection qp) d [] i (All-nil (IsKeptDirection qp)))
 
-pub kept_there : (s : List ℕ) (r : ℕ) (ds : List KeptDirection) (k : ℕ) (d : KeptDirection) → k ≤ length ds → d.set ≡ s → d.row ≡ r → IsKeptAt s r (insert ds k d) k
-kept_there s r ds k d h e f = record {
+pub kept_last : (ds : List KeptDirection) (d : KeptDirection) → IsKeptAt d.set d.row (ds ++ d ∷ []) (length ds)
+kept_last ds d = record {
   there = d;
-  stands = slice_get-get_or (insert ds k d) k d (omega (arith, length-insert ds k d h)) ∙ ap Some (get_or-insert_at ds k d d h);
-  set_is = e;
-  row_is = f;
+  stands = slice_get-get_or (ds ++ d ∷ []) (length ds) d (let l = length-append ds (d ∷ []) in omega (arith, l)) ∙ ap Some (get_or-append_seam ds d [] d);
+  set_is = refl;
+  row_is = refl;
 }
 
 -- ---- what is read in a place

@@ -18,7 +18,7 @@ ghost use Rattle.mpc_online.specs.Shared.{IsKeptOf, IsSlopeOf, IsKeptDirection, 
 use crate::evens::even_rows;
 use crate::matrices::step_right;
 use crate::opening::opening_of;
-use crate::prepared::{Direction, KeptDirection, Prepared};
+use crate::prepared::{Direction, IndexEntry, KeptDirection, Prepared};
 use crate::shared::shared_table;
 use crate::solutions::{Stop, dot_of, part, solution};
 use crate::wholes::whole_rows;
@@ -29,10 +29,11 @@ use mpc_rows::{Qp, law_theorems};
 use mpc_sets::ActiveSet;
 use mpc_systems::member_places;
 use mpc_wholes::over_one_denominator;
-use std::alloc::{AllocFailed, Global};
+use std::alloc::Global;
 
-/// So many directions are kept at most.
-const MOST_DIRECTIONS: usize = 1024;
+/// So many directions are kept at most. One takes some 700 bytes, so all take at most 3 MB. A million random states of the plant with the most
+/// laws in `bench/online` meet 950.
+const MOST_DIRECTIONS: usize = 4096;
 
 /// What all states of the program share, with what is kept of the elimination of its Hessian, and no direction yet.
 pub fn prepared_with(alloc: Global, qp: &Qp, kept: Option<Kept>) -> Result<Prepared, NoMemory>
@@ -52,6 +53,7 @@ pub fn prepared_with(alloc: Global, qp: &Qp, kept: Option<Kept>) -> Result<Prepa
         kept,
         opening,
         directions: Vec::new(alloc),
+        index: Vec::new(alloc),
     })
 }
 
@@ -185,16 +187,16 @@ fn found_direction(
     })
 }
 
-/// Where a direction of this set and this row stands, or would stand, among those in their order.
-fn place_among(directions: &[KeptDirection], mask: u64, row: u32) -> usize
-    ensures { result ≤ length directions.now }
+/// Where the entry of a mask and a row stands, or would stand, among those in their order.
+fn place_among(index: &[IndexEntry], mask: u64, row: u32) -> usize
+    ensures { result ≤ length index.now }
 {
     let mut from = 0;
-    let mut to = directions.len();
+    let mut to = index.len();
     while from < to {
         let middle = from + (to - from) / 2;
-        let other = &directions[middle];
-        if other.row < row || other.row == row && other.set.mask() < mask {
+        let other = &index[middle];
+        if other.row < row || other.row == row && other.mask < mask {
             from = middle + 1;
         } else {
             to = middle;
@@ -213,23 +215,59 @@ fn stands_at(directions: &[KeptDirection], place: usize, set: ActiveSet, row: u3
     there.set == set && there.row == row
 }
 
-/// Keeps a direction in this place, or alone where there are too many; where it stands then.
-fn keep_direction(
-    directions: &mut Vec<KeptDirection>,
-    place: usize,
-    found: KeptDirection,
-) -> Result<usize, AllocFailed<KeptDirection>>
-    requires { place ≤ length directions.old.items }
-    ensures kept { (qp : Qp) → All (IsKeptDirection qp) directions.old.items → IsKeptDirection qp found → All (IsKeptDirection qp) directions.new.items }
-    ensures place { IfOk result (IsKeptAt found.set found.row directions.new.items) }
+/// Where the direction of this set and this row is kept, if this entry of the index is its own.
+fn place_by(
+    directions: &[KeptDirection],
+    index: &[IndexEntry],
+    at: usize,
+    set: ActiveSet,
+    row: u32,
+) -> Option<usize>
+    ensures { IfSome result (IsKeptAt set row directions.now) }
+{
+    let place = index.get(at)?.place;
+    if !stands_at(directions, place, set, row) {
+        return None;
+    }
+    Some(place)
+}
+
+/// Gives up all directions where they are too many for one more; where its entry comes in the index then.
+fn room_at(directions: &mut Vec<KeptDirection>, index: &mut Vec<IndexEntry>, at: usize) -> usize
+    requires { at ≤ length index.old.items }
+    ensures kept { (qp : Qp) → All (IsKeptDirection qp) directions.old.items → All (IsKeptDirection qp) directions.new.items }
+    ensures within { result ≤ length index.new.items }
 {
     if directions.len() < MOST_DIRECTIONS {
-        directions.insert(place, found)?;
-        return Ok(place);
+        return at;
     }
     directions.clear();
-    directions.insert(0, found)?;
-    Ok(0)
+    index.clear();
+    0
+}
+
+/// Keeps a direction with this entry of the index, alone where there were too many; where it stands then.
+fn keep_direction(
+    directions: &mut Vec<KeptDirection>,
+    index: &mut Vec<IndexEntry>,
+    at: usize,
+    found: KeptDirection,
+) -> Result<usize, Stop>
+    requires { at ≤ length index.old.items }
+    ensures kept { (qp : Qp) → All (IsKeptDirection qp) directions.old.items → IsKeptDirection qp found → All (IsKeptDirection qp) directions.new.items }
+    ensures place { IfOk result (IsKeptAt found.set found.row directions.new.items) }
+    ensures memory { IfErr result (λ e. e ≡ no_memory) }
+{
+    let at = room_at(directions, index, at);
+    let place = directions.len();
+    let entry = IndexEntry {
+        row: found.row,
+        mask: found.set.mask(),
+        place,
+    };
+    directions.push(found)?;
+    index.insert(at, entry)?;
+    Ok(place)
 }
 
 /// The place in which the direction of a step towards the row is kept: where it wasn't yet, it is found first. Beyond a number of
@@ -251,11 +289,11 @@ pub fn direction_place(
     ensures place { IfOk result (IsKeptAt set row prepared.new.directions.items) }
     ensures memory { IfErr result (λ e. e ≡ no_memory) }
 {
-    let place = place_among(&prepared.directions, set.mask(), row);
-    if stands_at(&prepared.directions, place, set, row) {
+    let at = place_among(&prepared.index, set.mask(), row);
+    if let Some(place) = place_by(&prepared.directions, &prepared.index, at, set, row) {
         return Ok(place);
     }
     let found = found_direction(alloc, qp, &prepared.kept, set, row)?;
-    let there = keep_direction(&mut prepared.directions, place, found)?;
+    let there = keep_direction(&mut prepared.directions, &mut prepared.index, at, found)?;
     Ok(there)
 }

@@ -25,6 +25,14 @@ pub struct KeptDirection {
     pub direction: Option<Direction>,
 }
 
+/// An entry of an index of directions: that of this row and the members with this mask stands in this place.
+#[derive(Clone, Copy, Drop)]
+pub struct IndexEntry {
+    pub row: u32,
+    pub mask: u64,
+    pub place: usize,
+}
+
 /// The first point as forms in the extended counts, whose values it has at all states of the grid, and the forms in whole numbers, where
 /// these are small.
 #[derive(Drop)]
@@ -42,8 +50,8 @@ pub struct EvenRows {
 }
 
 /// What the runs at all states of a program share: the rows of its g, w and f in whole numbers, where these are small, and those of g and w
-/// over one denominator; the elimination of its Hessian in the equations of all steps, where it is kept; the first point as forms, where its numbers are small; and the directions
-/// that were found, by rising rows and masks.
+/// over one denominator; the elimination of its Hessian in the equations of all steps, where it is kept; the first point as forms, where its
+/// numbers are small; and the directions, as they were found, with an index by rising rows and masks.
 #[derive(Drop)]
 pub struct Prepared {
     pub rows: Vec<Option<Wholes>>,
@@ -53,4 +61,5 @@ pub struct Prepared {
     pub kept: Option<Kept>,
     pub opening: Option<Opening>,
     pub directions: Vec<KeptDirection>,
+    pub index: Vec<IndexEntry>,
 }

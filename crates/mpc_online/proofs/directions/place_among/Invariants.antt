@@ -2,7 +2,7 @@ use Rattle.std.proofs.Common.{◌-◌, ◌≤◌, length}
 use Rattle.mpc_online.proofs.directions.place_among.Given as goal
 
 abbrev pub invariant-loop-from : goal.invariant-loop-from
-invariant-loop-from l = record { ordered : l.from ≤ l.to; within : l.to ≤ length l.directions }
+invariant-loop-from l = record { ordered : l.from ≤ l.to; within : l.to ≤ length l.index }
 
 abbrev pub decreases-loop-from : goal.decreases-loop-from
 decreases-loop-from l = l.to - l.from
