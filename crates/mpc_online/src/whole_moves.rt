@@ -54,11 +54,18 @@ fn divided(numerator: i128, shared: u128) -> i128
     if numerator < 0 { -size } else { size }
 }
 
-/// The first numbers in lowest terms.
+/// Numbers up to this, 2^48, aren't reduced: their products with those of a row and of a direction are small, and a divisor costs more than
+/// it saves.
+const SHORT: u128 = 0x1_0000_0000_0000;
+
+/// The first numbers in lowest terms, or as they are where they are short.
 pub fn lowest(numbers: Wholes, count: usize) -> Wholes
     requires { count ≤ 6 }
     ensures { (xs : List ℚ) → IsOver xs numbers → length xs ≡ count → IsOver xs result }
 {
+    if numbers.most <= SHORT {
+        return numbers;
+    }
     let shared = common_divisor(&numbers, count);
     if shared == 1 {
         return numbers;
