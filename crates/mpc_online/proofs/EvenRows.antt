@@ -1,10 +1,10 @@
 -- Rows and right sides over one denominator.
-use Rattle.std.proofs.Common.{◌≡◌, ℕ, zero, suc, ◌+◌, ◌-◌, ◌*◌, ◌^◌, ◌<◌, ◌≤◌, ◌↔◌, List, [], ◌∷◌, ◌++◌, length, get_or, ℤ, pos, ◌*ℤ◌, ◌<ℤ◌, neg_ℤ, unsigned_abs, to_z, of_z, Bool, IsTrue, sym, ◌∙◌, ap, subst, subst₂, arith, mul-pos, ⊎_elim}
+use Rattle.std.proofs.Common.{◌≡◌, ℕ, zero, suc, ◌+◌, ◌-◌, ◌*◌, ◌^◌, ◌<◌, ◌≤◌, ◌↔◌, List, [], ◌∷◌, ◌++◌, length, get_or, ℤ, pos, ◌-ℤ◌, ◌*ℤ◌, ◌<ℤ◌, neg_ℤ, unsigned_abs, to_z, of_z, Bool, IsTrue, sym, ◌∙◌, ap, subst, subst₂, arith, mul-pos, ⊎_elim}
 use Rattle.std.specs.Int.{w128}
 use Rattle.std.proofs.lemmas.Bool.{cases_eq}
 use Rattle.std.proofs.lemmas.Int.{ints}
 use Rattle.std.proofs.lemmas.List.{length-append, get_or_append_left, get_or-append_right}
-use Rattle.mpc_exact.specs.Rational.{ℚ, frac, int, ◌<ℚ◌, neg_ℚ, IsPositive}
+use Rattle.mpc_exact.specs.Rational.{ℚ, frac, int, ◌+ℚ◌, ◌-ℚ◌, ◌<ℚ◌, neg_ℚ, IsPositive}
 use Rattle.mpc_exact.proofs.OrderTheorems.{*ℚ-<ℚ, *ℚ-<ℚ_cancel}
 use Rattle.mpc_exact.proofs.Rational.{frac-neg}
 use Rattle.mpc_exact.proofs.School.{frac_expand, frac_times, int_lt, natural_lt}
@@ -138,6 +138,11 @@ module _ (x y : Wholes) (n : ℤ) (x_small : x.most ≤ 2 ^ 44) (y_small : y.mos
       subst (λ v. FitsSum (frac l (x.den * y.den)) v) (sym (ap neg_ℚ side_over ∙ frac-neg (n *ℤ pos y.den) (x.den * y.den) all_some))
       (laws.both l (neg_ℤ (n *ℤ pos y.den)) (x.den * y.den) all_some (omega (arith, a, b, e, size)) all_small)
 
+  pub excess_is : (l : ℤ) → OverTheorems → frac (l -ℤ n *ℤ pos y.den) (x.den * y.den) ≡ frac l (x.den * y.den) -ℚ frac n x.den
+  excess_is l laws =
+      sym (laws.sum l (neg_ℤ (n *ℤ pos y.den)) (x.den * y.den) all_some)
+      ∙ ap (λ v. frac l (x.den * y.den) +ℚ v) (sym (ap neg_ℚ side_over ∙ frac-neg (n *ℤ pos y.den) (x.den * y.den) all_some))
+
   positive_all : IsPositive (int (pos (x.den * y.den)))
   positive_all = (natural_lt 0 (x.den * y.den)).1 all_some
 
@@ -197,6 +202,9 @@ module _ (qp : Qp) (e : EvenSides) (w : Wholes) (count : ℕ) (rows : List Whole
           λ t. record { above = subst (λ x. x <ℚ level qp (first_of w count) (k + 1)) side_is (g.0 t) },
           λ v. g.1 (subst (λ x. x <ℚ level qp (first_of w count) (k + 1)) (sym side_is) v.above),
         )
+
+    pub excess_even : (v : ℚ) → ((xs ys : List ℚ) → IsOver xs row → IsOver ys w → length xs ≡ count → length ys ≡ count → v ≡ dot xs ys -ℚ frac n row.den) → v ≡ level qp (first_of w count) (k + 1) -ℚ side (even_sides e) (k + 1)
+    excess_even v h = of_row (λ xs ys. v ≡ dot xs ys -ℚ frac n row.den) h ∙ ap (λ x. level qp (first_of w count) (k + 1) -ℚ x) side_is
 
     pub test_fits_even : ((xs ys : List ℚ) → IsOver xs row → IsOver ys w → length xs ≡ count → length ys ≡ count → DotFits xs ys × FitsSum (dot xs ys) (neg_ℚ (frac n row.den))) → TestFits qp (even_sides e) (first_of w count) (k + 1)
     test_fits_even h =

@@ -1,7 +1,7 @@
 //! The right sides of the rows at a state, over one denominator where the numbers are small.
 
 ghost use Rattle.std.specs.Prelude.{◌≡◌, List, ◌*◌, ◌^◌, ◌<◌, ◌≤◌, ◌↔◌, IfOk, IfSome, IsTrue, MatchResult, length, unsigned_abs};
-ghost use Rattle.mpc_exact.specs.Rational.{ℚ, frac, ◌<ℚ◌, neg_ℚ};
+ghost use Rattle.mpc_exact.specs.Rational.{ℚ, frac, ◌-ℚ◌, ◌<ℚ◌, neg_ℚ};
 ghost use Rattle.mpc_frac.specs.Fits.{FitsSum};
 ghost use Rattle.mpc_space.specs.Vector.{coordinate, dot, mat_vec};
 ghost use Rattle.mpc_space.specs.Matrix.{IsRectangular};
@@ -15,7 +15,7 @@ ghost use Rattle.mpc_online.specs.Answers.{IfStopWide};
 use crate::prepared::{EvenRows, Prepared};
 use crate::sides::{EvenSides, Sides};
 use crate::solutions::{Stop, products};
-use crate::wholes::{dot_of_numerators, is_above_whole, product};
+use crate::wholes::{difference, dot_of_numerators, fraction_over, is_above_whole, product};
 use mpc_frac::{Frac, fit_theorems};
 use mpc_linear::Matrix;
 use mpc_rows::Qp;
@@ -132,4 +132,28 @@ pub fn is_above_side(row: &Wholes, numbers: &Wholes, count: usize, numerator: i1
     over_theorems();
     let level = dot_of_numerators(row, numbers, count);
     is_above_whole(level, product(numerator, numbers.den as i128))
+}
+
+/// By how much the dot is above this numerator over the denominator of the row.
+pub fn excess_over_side(
+    row: &Wholes,
+    numbers: &Wholes,
+    count: usize,
+    numerator: i128,
+) -> Option<Frac>
+    requires few { count ≤ 6 }
+    requires row { row.now.most ≤ 2 ^ 44 }
+    requires numbers { numbers.now.most ≤ 2 ^ 58 }
+    requires numerator { unsigned_abs numerator ≤ 6 * 2 ^ 64 }
+    ensures value { IfSome result
+        (λ v. (xs ys : List ℚ) → IsOver xs row.now → IsOver ys numbers.now → length xs ≡ count → length ys ≡ count
+        → v ≡ dot xs ys -ℚ frac numerator row.now.den) }
+    ensures fits { IfSome result
+        (λ _. (xs ys : List ℚ) → IsOver xs row.now → IsOver ys numbers.now → length xs ≡ count → length ys ≡ count
+        → DotFits xs ys × FitsSum (dot xs ys) (neg_ℚ (frac numerator row.now.den))) }
+{
+    over_theorems();
+    let level = dot_of_numerators(row, numbers, count);
+    let above = difference(level, product(numerator, numbers.den as i128));
+    fraction_over(above, row.den * numbers.den)
 }

@@ -167,7 +167,7 @@ fn advance(
     let Some(direction) = &kept.directions[place].direction else {
         return Err(Stop::Wide);
     };
-    let turn = turn_of(qp, &kept.rows, sides, &it, direction)?;
+    let turn = turn_of(qp, kept, sides, &it, direction)?;
     take_turn(alloc, qp, kept, sides, it, direction, turn)
 }
 

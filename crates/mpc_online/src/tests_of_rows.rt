@@ -10,7 +10,7 @@ ghost use Rattle.mpc_online.specs.Wholes.{AreRowsOver, entries_of, first_of};
 ghost use Rattle.mpc_online.specs.Evens.{sides_of, even_sides};
 ghost use Rattle.mpc_online.specs.Shared.{IsPreparedFor};
 
-use crate::evens::{is_above_side, side_at};
+use crate::evens::{excess_over_side, is_above_side, side_at};
 use crate::numbers::is_positive;
 use crate::points::{Point, point_dot};
 use crate::prepared::Prepared;
@@ -39,7 +39,7 @@ fn excess(qp: &Qp, sides: &Sides, point: &Point, row_number: u32) -> Result<Frac
 }
 
 /// The same, in whole numbers where these are small.
-pub fn excess_at(
+fn excess_by_rows(
     qp: &Qp,
     rows: &[Option<Wholes>],
     sides: &Sides,
@@ -69,6 +69,84 @@ pub fn excess_at(
         }
     }
     excess(qp, sides, point, row_number)
+}
+
+/// The same, where all rows are over one denominator and no number is large.
+fn excess_in_wholes(
+    qp: &Qp,
+    rows: &[Wholes],
+    sides: &EvenSides,
+    numbers: &Wholes,
+    count: usize,
+    row_number: u32,
+) -> Option<Frac>
+    requires rows { AreOneScale qp.now.g sides.now.den (2 ^ 44) rows.now }
+    requires sides { length (even_sides sides.now) ≡ height qp.now.g }
+    requires count { count ≡ height qp.now.h }
+    requires few { count ≤ 6 }
+    requires numbers { numbers.now.most ≤ 2 ^ 58 }
+    requires from_one { 1 ≤ row_number }
+    requires to_last { row_number ≤ height qp.now.g }
+    ensures value { IfSome result
+        (λ v. v ≡ level qp.now (first_of numbers.now count) row_number -ℚ side (even_sides sides.now) row_number) }
+    ensures fits { IfSome result (λ _. TestFits qp.now (even_sides sides.now) (first_of numbers.now count) row_number) }
+{
+    let place = row_number as usize - 1;
+    excess_over_side(&rows[place], numbers, count, sides.numerators[place])
+}
+
+/// The same, where it is known that they are.
+fn excess_of_even(
+    qp: &Qp,
+    prepared: &Prepared,
+    sides: &Sides,
+    point: &Point,
+    row_number: u32,
+) -> Option<Frac>
+    requires prepared { IsPreparedFor qp.now prepared.now }
+    requires sides { length (sides_of sides.now) ≡ height qp.now.g }
+    requires point { length (entries_of point.now) ≡ height qp.now.h }
+    requires from_one { 1 ≤ row_number }
+    requires to_last { row_number ≤ height qp.now.g }
+    ensures value { IfSome result (λ v. v ≡ level qp.now (entries_of point.now) row_number -ℚ side (sides_of sides.now) row_number) }
+    ensures fits { IfSome result (λ _. TestFits qp.now (sides_of sides.now) (entries_of point.now) row_number) }
+{
+    let Some(even) = &prepared.even else {
+        return None;
+    };
+    let Sides::Even(right) = sides else {
+        return None;
+    };
+    let Point::Whole(numbers, count) = point else {
+        return None;
+    };
+    if right.den != even.den || numbers.most > MOST {
+        return None;
+    }
+    excess_in_wholes(qp, &even.rows, right, numbers, *count, row_number)
+}
+
+/// The same, in whole numbers where these are small, over one denominator of all rows where that is known.
+pub fn excess_at(
+    qp: &Qp,
+    prepared: &Prepared,
+    sides: &Sides,
+    point: &Point,
+    row_number: u32,
+) -> Result<Frac, Wide>
+    requires prepared { IsPreparedFor qp.now prepared.now }
+    requires sides { length (sides_of sides.now) ≡ height qp.now.g }
+    requires point { length (entries_of point.now) ≡ height qp.now.h }
+    requires from_one { 1 ≤ row_number }
+    requires to_last { row_number ≤ height qp.now.g }
+    ensures value { IfOk result (λ v. v ≡ level qp.now (entries_of point.now) row_number -ℚ side (sides_of sides.now) row_number) }
+    ensures wide { MatchResult result (λ _. TestFits qp.now (sides_of sides.now) (entries_of point.now) row_number)
+        (λ _. ¬ TestFits qp.now (sides_of sides.now) (entries_of point.now) row_number) }
+{
+    if let Some(above) = excess_of_even(qp, prepared, sides, point, row_number) {
+        return Ok(above);
+    }
+    excess_by_rows(qp, &prepared.rows, sides, point, row_number)
 }
 
 /// Whether the point is above the row with this number: in whole numbers, where these are small, and else in fractions.

@@ -9,18 +9,16 @@ ghost use Rattle.mpc_online.specs.Turns.{shorter_of, IsShortestWith, full_length
 ghost use Rattle.mpc_online.specs.Widths.{QuotientsFit, FullFits, LengthsFit};
 ghost use Rattle.mpc_online.specs.Standing.{IsPosition};
 ghost use Rattle.mpc_online.specs.Answers.{position_of};
-ghost use Rattle.mpc_online.specs.Shared.{IsSlopeOf};
-ghost use Rattle.mpc_online.specs.Wholes.{AreRowsOver};
+ghost use Rattle.mpc_online.specs.Shared.{IsSlopeOf, IsPreparedFor};
 ghost use Rattle.mpc_online.specs.Evens.{sides_of};
 
 use crate::moves::Iterate;
 use crate::numbers::{is_less, is_negative};
-use crate::prepared::Direction;
+use crate::prepared::{Direction, Prepared};
 use crate::sides::Sides;
 use crate::tests_of_rows::excess_at;
 use mpc_frac::{Frac, Wide};
 use mpc_rows::Qp;
-use mpc_wholes::Wholes;
 
 /// What ends a step.
 #[derive(Drop)]
@@ -81,12 +79,12 @@ fn is_zero(entries: &[Frac]) -> bool
 /// The length at which the row on its way holds with equality.
 fn full_length(
     qp: &Qp,
-    rows: &[Option<Wholes>],
+    prepared: &Prepared,
     sides: &Sides,
     it: &Iterate,
     direction: &Direction,
 ) -> Result<Frac, Wide>
-    requires rows { AreRowsOver qp.now.g rows.now }
+    requires prepared { IsPreparedFor qp.now prepared.now }
     requires position { IsPosition qp.now (position_of it.now) }
     requires sides { length (sides_of sides.now) ≡ height qp.now.g }
     requires direction { length direction.now.point.items ≡ height qp.now.h }
@@ -96,7 +94,7 @@ fn full_length(
     ensures wide { MatchResult result (λ _. FullFits qp.now (sides_of sides.now) (position_of it.now) direction.now.point.items)
         (λ _. ¬ FullFits qp.now (sides_of sides.now) (position_of it.now) direction.now.point.items) }
 {
-    let above = excess_at(qp, rows, sides, &it.point, it.row)?;
+    let above = excess_at(qp, prepared, sides, &it.point, it.row)?;
     let Some(slope) = &direction.slope else {
         return Err(Wide);
     };
@@ -106,12 +104,12 @@ fn full_length(
 /// What ends the step in this direction.
 pub fn turn_of(
     qp: &Qp,
-    rows: &[Option<Wholes>],
+    prepared: &Prepared,
     sides: &Sides,
     it: &Iterate,
     direction: &Direction,
 ) -> Result<Turn, Wide>
-    requires rows { AreRowsOver qp.now.g rows.now }
+    requires prepared { IsPreparedFor qp.now prepared.now }
     requires position { IsPosition qp.now (position_of it.now) }
     requires sides { length (sides_of sides.now) ≡ height qp.now.g }
     requires direction { length direction.now.point.items ≡ height qp.now.h }
@@ -129,7 +127,7 @@ pub fn turn_of(
         };
         return Ok(Turn::Drops(drop.place, drop.length));
     }
-    let full = full_length(qp, rows, sides, it, direction)?;
+    let full = full_length(qp, prepared, sides, it, direction)?;
     let Some(drop) = partial else {
         return Ok(Turn::Joins(full));
     };

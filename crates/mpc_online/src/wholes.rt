@@ -73,7 +73,7 @@ pub fn product(left: i128, right: i128) -> i128
 }
 
 /// The difference, which fits.
-fn difference(left: i128, right: i128) -> i128
+pub fn difference(left: i128, right: i128) -> i128
     requires { unsigned_abs (left -ℤ right) < 2 ^ 127 }
     ensures { result ≡ left -ℤ right }
 {
@@ -147,7 +147,7 @@ pub fn difference_in_wholes(
 }
 
 /// The fraction of these parts, where it fits: nothing is reduced where it is whole.
-fn fraction_over(numerator: i128, den: u128) -> Option<Frac>
+pub fn fraction_over(numerator: i128, den: u128) -> Option<Frac>
     requires positive { 0 < den }
     requires small { den ≤ 2 ^ 124 }
     ensures { IfSome result (λ v. v ≡ frac numerator den) }

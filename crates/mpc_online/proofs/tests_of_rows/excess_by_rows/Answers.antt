@@ -6,7 +6,7 @@ use Rattle.mpc_linear.specs.Dot.{DotFits}
 use Rattle.mpc_online.specs.Wholes.{entries_of}
 use Rattle.mpc_online.proofs.WholePoints.{count_few, row_and_point, test_fits_whole, excess_whole}
 use Rattle.mpc_online.specs.Evens.{sides_of}
-use Rattle.mpc_online.proofs.tests_of_rows.excess_at.Goals as goal
+use Rattle.mpc_online.proofs.tests_of_rows.excess_by_rows.Goals as goal
 
 pub difference_in_wholes-requires : goal.difference_in_wholes-requires
 difference_in_wholes-requires c =
