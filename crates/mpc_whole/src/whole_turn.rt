@@ -1,6 +1,6 @@
 //! Who leaves and who enters, in whole numbers.
 
-ghost use Rattle.std.specs.Prelude.{◌≡◌, ℕ, ℤ, List, ◌+◌, ◌-◌, ◌*◌, ◌<◌, ◌≤◌, ◌^◌, ◌*ℤ◌, IsTrue, unsigned_abs, length, true, false};
+ghost use Rattle.std.specs.Prelude.{◌≡◌, ℕ, ℤ, List, ◌+◌, ◌-◌, ◌*◌, ◌<◌, ◌≤◌, ◌^◌, ◌*ℤ◌, ◌≤ℤ◌, pos, IsTrue, unsigned_abs, length, true, false};
 ghost use Rattle.mpc_rows.specs.LinearSystem.{height};
 ghost use Rattle.mpc_rows.specs.Least.{least};
 ghost use Rattle.mpc_rows.specs.Run.{Position, bound, value, may_leave, may_enter};
@@ -18,9 +18,38 @@ ghost use Rattle.mpc_whole.specs.Running.{HasNumbers, IsFrame, AreParts, AreShor
 use crate::frames::Frame;
 use crate::whole::Place;
 use crate::whole_values::step_of;
-use mpc_quotients::{Sums, four_row_times_column, row_times, row_times_column};
+use mpc_quotients::{Sums, four_row_times_column, row_times, row_times_column, wide_row_times};
 use mpc_runs::{Seat, is_basic};
 use mpc_scaled::{WholeSystem, product, signed};
+
+/// Whether the value of a side is above its bound, where their first parts are the same. So few are that this isn't put into the loop
+/// over the sides, which then keeps what it needs in registers.
+#[inline(never)]
+fn is_second_out(
+    system: &WholeSystem,
+    frame: &Frame,
+    _firsts: &[i64],
+    seconds: &[i64],
+    den: u64,
+    side: usize,
+) -> bool
+    requires side { side < height system.now }
+    requires numbers { HasNumbers system.now frame.now.count frame.now.scales.now frame.now.a.now frame.now.b.now }
+    requires parts { AreParts system.now.width _firsts.now seconds.now }
+    requires den_small { den ≤ 2 ^ 62 }
+    requires not_above { whole_total system.now.width (λ j. whole_cell system.now.width frame.now.a.now side j *ℤ whole_at _firsts.now j) ≤ℤ (whole_at frame.now.b.now side *ℤ pos den) }
+    requires not_below { (whole_at frame.now.b.now side *ℤ pos den) ≤ℤ whole_total system.now.width (λ j. whole_cell system.now.width frame.now.a.now side j *ℤ whole_at _firsts.now j) }
+    ensures { (p : Position) → 0 < den → HasSideValues system.now frame.now.scales.now frame.now.a.now p den _firsts.now seconds.now → HasSides system.now frame.now.scales.now frame.now.b.now
+        → result ≡ is_below (bound system.now (system.now.width + side)) (value system.now p (system.now.width + side)) }
+{
+    let second = wide_row_times(frame.a, side, seconds);
+    let step = step_of(system, frame.scales, side);
+    let next = product(step, signed(den));
+    if next < second {
+        return true;
+    }
+    false
+}
 
 /// Whether the value of a side is above its bound.
 #[inline(always)]
@@ -50,13 +79,7 @@ fn is_out(
     if first < limit {
         return false;
     }
-    let second = row_times(frame.a, side, seconds, sums);
-    let step = step_of(system, frame.scales, side);
-    let next = product(step, signed(den));
-    if next < second {
-        return true;
-    }
-    false
+    is_second_out(system, frame, firsts, seconds, den, side)
 }
 
 /// Whether all numbers are at most so great in size.

@@ -7,16 +7,13 @@ use Rattle.mpc_runs.specs.WholeNumbers.{whole_total, HasRoom}
 use Rattle.mpc_scaled.specs.Scaled.{whole_at, whole_cell, scale_at, HasSides}
 use Rattle.mpc_runs.proofs.LeftSides.{bound-first}
 use Rattle.mpc_runs.proofs.WholeWidths.{back128, both_back}
-use Rattle.mpc_whole.proofs.WholeTurns.{out_above, out_below, out_next, out_not, lt_so, not_lt_so}
+use Rattle.mpc_whole.proofs.WholeTurns.{out_above, out_below, lt_so, not_lt_so}
 use Rattle.mpc_whole.proofs.WholeExchange.{rows_in}
 use Rattle.mpc_whole.proofs.whole_turn.is_out.Goals as goal
-use Rattle.mpc_whole.proofs.whole_turn.is_out.Goals.{After-product-limit, After-product-next}
+use Rattle.mpc_whole.proofs.whole_turn.is_out.Goals.{After-product-limit}
 
 pub row_times-first-requires-clause-result_small : goal.row_times-first-requires-clause-result_small
 row_times-first-requires-clause-result_small c = λ t. subst (λ w. unsigned_abs (whole_total w (λ j. whole_cell w c.args.frame.now.a.now c.args.side j *ℤ whole_at c.args.firsts.now j)) ≤ 2 ^ 62) (sym c.requires.parts.first_size) ((c.requires.short t).first c.args.side)
-
-pub row_times-second-requires-clause-result_small : goal.row_times-second-requires-clause-result_small
-row_times-second-requires-clause-result_small c = λ t. subst (λ w. unsigned_abs (whole_total w (λ j. whole_cell w c.args.frame.now.a.now c.args.side j *ℤ whole_at c.args.seconds.now j)) ≤ 2 ^ 62) (sym c.requires.parts.second_size) ((c.requires.short t).second c.args.side)
 
 limit_is : (c : After-product-limit) → to_z w128 (of_z w128 c.product-limit.result) ≡ whole_at c.args.frame.now.b.now c.args.side *ℤ pos c.args.den
 limit_is c =
@@ -47,33 +44,6 @@ returns-then-first-limit c = λ p some v w.
     out_below (bound c.args.system.now (c.args.system.now.width + c.args.side)) (value c.args.system.now p (c.args.system.now.width + c.args.side)) _ _ (scale_at c.args.frame.now.scales.now (c.args.system.now.width + c.args.side)) c.args.den (scale at) some (bound_is at w) (v.first c.args.side c.requires.side)
     (subst₂ (λ x y. x <ℤ y) (first_is at) (limit_is at) (lt_so _ _ c.if-first-limit.true))
 
-second_is : (c : After-product-next) → to_z w128 (of_z w128 c.row_times-second.result) ≡ whole_total c.args.system.now.width (λ j. whole_cell c.args.system.now.width c.args.frame.now.a.now c.args.side j *ℤ whole_at c.args.seconds.now j)
-second_is c =
-    back128 _ c.row_times-second.type_inv ∙ c.row_times-second.ensures.value
-    ∙ ap (λ w. whole_total w (λ j. whole_cell w c.args.frame.now.a.now c.args.side j *ℤ whole_at c.args.seconds.now j)) c.requires.parts.second_size
-
-next_is : (c : After-product-next) → to_z w128 (of_z w128 c.product-next.result) ≡ c.step_of-step.result *ℤ pos c.args.den
-next_is c =
-    let f : FitsSigned w64 c.step_of-step.result = search rules in
-    let g : FitsSigned w64 c.signed-2.result = search rules in
-    back128 _ c.product-next.type_inv ∙ both_back _ _ _ f g c.product-next.ensures ∙ ap (λ z. c.step_of-step.result *ℤ z) c.signed-2.ensures.value
-
-pub returns-then-next-second : goal.returns-then-next-second
-returns-then-next-second c = λ p some v w.
-    let all = goal.at.returns-then-next-second c in
-    out_next (bound c.args.system.now (c.args.system.now.width + c.args.side)) (value c.args.system.now p (c.args.system.now.width + c.args.side)) _ _ (scale_at c.args.frame.now.scales.now (c.args.system.now.width + c.args.side)) c.args.den (scale all.After-product-limit) some (bound_is all.After-product-limit w) (v.first c.args.side c.requires.side) _ _ c.step_of-step.ensures.value (v.second c.args.side c.requires.side)
-    (subst₂ (λ x y. x ≤ℤ y) (first_is all.After-product-limit) (limit_is all.After-product-limit) (not_lt_so _ _ c.if-limit-first.false))
-    (subst₂ (λ x y. x ≤ℤ y) (limit_is all.After-product-limit) (first_is all.After-product-limit) (not_lt_so _ _ c.if-first-limit.false))
-    (subst₂ (λ x y. x <ℤ y) (next_is all.After-product-next) (second_is all.After-product-next) (lt_so _ _ c.if-next-second.true))
-
-pub returns : goal.returns
-returns c = λ p some v w.
-    let all = goal.at.returns c in
-    out_not (bound c.args.system.now (c.args.system.now.width + c.args.side)) (value c.args.system.now p (c.args.system.now.width + c.args.side)) _ _ (scale_at c.args.frame.now.scales.now (c.args.system.now.width + c.args.side)) c.args.den (scale all.After-product-limit) some (bound_is all.After-product-limit w) (v.first c.args.side c.requires.side) _ _ c.step_of-step.ensures.value (v.second c.args.side c.requires.side)
-    (subst₂ (λ x y. x ≤ℤ y) (first_is all.After-product-limit) (limit_is all.After-product-limit) (not_lt_so _ _ c.if-limit-first.false))
-    (subst₂ (λ x y. x ≤ℤ y) (limit_is all.After-product-limit) (first_is all.After-product-limit) (not_lt_so _ _ c.if-first-limit.false))
-    (subst₂ (λ x y. x ≤ℤ y) (second_is all.After-product-next) (next_is all.After-product-next) (not_lt_so _ _ c.if-next-second.false))
-
 pub row_times-first-requires-clause-inside : goal.row_times-first-requires-clause-inside
 row_times-first-requires-clause-inside c =
     subst (λ w. c.args.side * w + w ≤ length c.args.frame.now.a.now) (sym c.requires.parts.first_size)
@@ -85,13 +55,12 @@ row_times-first-requires-clause-room c = subst (λ w. HasRoom w (2 ^ 62) c.args.
 pub row_times-first-requires-clause-four : goal.row_times-first-requires-clause-four
 row_times-first-requires-clause-four c = λ t. c.requires.parts.first_size ∙ c.requires.four t
 
-pub row_times-second-requires-clause-inside : goal.row_times-second-requires-clause-inside
-row_times-second-requires-clause-inside c =
-    subst (λ w. c.args.side * w + w ≤ length c.args.frame.now.a.now) (sym c.requires.parts.second_size)
-    (rows_in c.args.system.now.width c.args.side (height c.args.system.now) (length c.args.frame.now.a.now) c.requires.side c.requires.numbers.whole.entries_size)
+pub is_second_out-requires-clause-not_above : goal.is_second_out-requires-clause-not_above
+is_second_out-requires-clause-not_above c =
+    let at = (goal.at.is_second_out-requires-clause-not_above c).After-product-limit in
+    subst₂ (λ x y. x ≤ℤ y) (first_is at) (limit_is at) (not_lt_so _ _ c.if-limit-first.false)
 
-pub row_times-second-requires-clause-room : goal.row_times-second-requires-clause-room
-row_times-second-requires-clause-room c = subst (λ w. HasRoom w (2 ^ 62) c.args.frame.now.a.now) (sym c.requires.parts.second_size) c.requires.numbers.room
-
-pub row_times-second-requires-clause-four : goal.row_times-second-requires-clause-four
-row_times-second-requires-clause-four c = λ t. c.requires.parts.second_size ∙ c.requires.four t
+pub is_second_out-requires-clause-not_below : goal.is_second_out-requires-clause-not_below
+is_second_out-requires-clause-not_below c =
+    let at = (goal.at.is_second_out-requires-clause-not_below c).After-product-limit in
+    subst₂ (λ x y. x ≤ℤ y) (limit_is at) (first_is at) (not_lt_so _ _ c.if-first-limit.false)
