@@ -9,6 +9,7 @@ pub mod WholeSteps
 pub mod WholeTurns
 pub mod Nonbasic
 mod ColumnMultipliers
+pub mod BearingRows
 pub mod ColumnSums
 pub mod WholeExchange
 mod RowParts

@@ -114,14 +114,15 @@ module _ (s : LinearSystem) (n : ℕ) (seats : List Seat) (k : List ℕ) (d : �
     last_back : s.width + (l - s.width) ≡ l
     last_back = let q : s.width ≤ l = last_side in omega arith
 
-    last_scale : (y : ℕ) → y < n → 0 < scale_at k y
+    pub last_scale : (y : ℕ) → y < n → 0 < scale_at k y
     last_scale y h = w.scales.some y (subst (λ m. y < m) seated.count h)
+
+    pub last_entry : (y c : ℕ) → y < n → seat_at seats y ≡ Column c → (last_position s).coefficient l y ≡ frac (side_cell s a v (l - s.width) c *ℤ pos (scale_at k y)) (d * scale_at k l)
+    last_entry y c h q = subst (λ m. (last_position s).coefficient m y ≡ frac (side_cell s a v (l - s.width) c *ℤ pos (scale_at k y)) (d * scale_at k m)) last_back (side_entry s (last_position s) reached_last k a b w n (sym seated.count) seats d v f (l - s.width) y c last_in h q)
 
     pub last_row : (x : List ℤ) → IsSideRow s a v (l - s.width) x → IsRowOf n seats k (last_position s) d l x
     last_row x row = record {
       own = last_scale l last_below;
       some = last_scale;
-      coefficients = λ y c h q. subst (λ m. (last_position s).coefficient m y ≡ frac (whole_at x c *ℤ pos (scale_at k y)) (d * scale_at k m)) last_back
-          (side_entry s (last_position s) reached_last k a b w n (sym seated.count) seats d v f (l - s.width) y c last_in h q
-          ∙ ap (λ u. frac (u *ℤ pos (scale_at k y)) (d * scale_at k (s.width + (l - s.width)))) (sym (row.cells c (seated.columns y c h q).0)));
+      coefficients = λ y c h q. last_entry y c h q ∙ ap (λ u. frac (u *ℤ pos (scale_at k y)) (d * scale_at k l)) (sym (row.cells c (seated.columns y c h q).0));
     }

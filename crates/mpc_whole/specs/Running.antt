@@ -3,7 +3,7 @@ use Rattle.std.specs.Prelude.{◌≡◌, ℕ, ◌+◌, ◌-◌, ◌*◌, ◌<◌
 use Rattle.mpc_exact.specs.Rational.{ℚ, int, frac}
 use Rattle.mpc_space.specs.Vector.{coordinate}
 use Rattle.mpc_rows.specs.LinearSystem.{LinearSystem, height}
-use Rattle.mpc_rows.specs.Run.{count}
+use Rattle.mpc_rows.specs.Run.{count, last_position, multiplier}
 use Rattle.mpc_runs.specs.declared.variables.Seat.{Seat}
 use Rattle.mpc_runs.specs.Table.{variable_at, AreNonbasic}
 use Rattle.mpc_runs.specs.WholeNumbers.{whole_total, HasRoom}
@@ -60,3 +60,7 @@ pub record HasColumnMultipliers (width : ℕ) (k : List ℕ) (nonbasic : List �
   pub inside : (seats : List Seat) → AreNonbasic width seats nonbasic
       → (c : ℕ) → c < columns → width ≤ variable_at nonbasic c → coordinate m (variable_at nonbasic c - width) ≡ frac (neg_ℤ (whole_at x c *ℤ pos (scale_at k (variable_at nonbasic c)))) den
   pub outside : (i : ℕ) → ((c : ℕ) → c < columns → width + i ≡ variable_at nonbasic c → ⊥) → coordinate m i ≡ int (pos 0)
+
+-- where the row of l refutes at the end of the run, the rows from one on and before another have the multiplier 0
+pub record AreUnused (s : LinearSystem) (l from to : ℕ) : Type 0 where
+  pub each : (i : ℕ) → from ≤ i → i < to → multiplier s (last_position s) l i ≡ int (pos 0)

@@ -23,6 +23,8 @@ pub use lists::{RunLists, WideLists};
 pub use theorems::position_theorems;
 pub use weights::MOST_VARIABLES;
 pub use whole::{Ending, Place, whole_run};
-pub use whole_ends::{last_multipliers, last_values, wide_last_multipliers, wide_last_values};
+pub use whole_ends::{
+    bearing_rows, last_multipliers, last_values, wide_last_multipliers, wide_last_values,
+};
 pub use whole_rows::{limit, put_units};
 pub use whole_values::clear;

@@ -1,6 +1,6 @@
 //! What a run in whole numbers ends with.
 
-ghost use Rattle.std.specs.Prelude.{◌≡◌, ℕ, List, pos, ◌+◌, ◌*◌, ◌<◌, ◌≤◌, ◌*ℤ◌, neg_ℤ, IfSome, length};
+ghost use Rattle.std.specs.Prelude.{◌≡◌, ℕ, List, pos, false, ◌+◌, ◌*◌, ◌<◌, ◌≤◌, ◌*ℤ◌, neg_ℤ, IfSome, length};
 ghost use Rattle.mpc_exact.specs.Rational.{frac, quotient};
 ghost use Rattle.mpc_space.specs.Vector.{zeros};
 ghost use Rattle.mpc_rows.specs.LinearSystem.{height};
@@ -8,7 +8,7 @@ ghost use Rattle.mpc_rows.specs.Run.{Position, count, turn, is_refuted, last_pos
 ghost use Rattle.mpc_runs.specs.declared.variables.Seat.{Seat};
 ghost use Rattle.mpc_runs.specs.Table.{variable_at, IsSeated, AreNonbasic};
 ghost use Rattle.mpc_runs.specs.RunEnd.{IsValues, IsMultipliers};
-ghost use Rattle.mpc_whole.specs.Running.{IsRefuting, HasColumnMultipliers};
+ghost use Rattle.mpc_whole.specs.Running.{IsRefuting, HasColumnMultipliers, AreUnused};
 ghost use Rattle.mpc_runs.specs.WholeNumbers.{whole_total};
 ghost use Rattle.mpc_whole.specs.Whole.{IsForm, HasBasis, IsRowOf, IsSideRow, AreValues, ArePairs};
 ghost use Rattle.mpc_scaled.specs.Scaled.{whole_cell, AreScales, IsWholeSystem};
@@ -164,6 +164,19 @@ fn side_cell(
     Some(total)
 }
 
+/// Whether the row of a side may have a number other than 0 in a column: it may where its number is too wide to be known.
+fn may_have(entries: &[i64], side: usize, numbers: &[i64], width: usize, column: usize) -> bool
+    requires inside { side * width + width ≤ length entries.now }
+    requires square { length numbers.now ≡ width * width }
+    requires column { column < width }
+    ensures { result ≡ false → whole_total width (λ unknown. whole_cell width entries.now side unknown *ℤ whole_cell width numbers.now unknown column) ≡ pos 0 }
+{
+    match side_cell(entries, side, numbers, width, column) {
+        Some(number) => number != 0,
+        None => true,
+    }
+}
+
 /// The row of a side, in numbers of 128 bits.
 fn side_row(
     row: &mut [i128],
@@ -254,6 +267,44 @@ pub fn last_multipliers(
         den,
         leaving,
     )
+}
+
+/// How many of the first rows, of so many, a refutation takes: one more than the number of the last of them whose
+/// multiplier may be other than 0, where the row of the side that leaves refutes at the last position of a run.
+pub fn bearing_rows(
+    system: &WholeSystem,
+    numbers: &WholeNumbers,
+    lists: &RunLists,
+    leaving: usize,
+    first: usize,
+) -> usize
+    requires first { first ≤ height system.now }
+    requires whole { IsWholeSystem system.now numbers.now.scales.now numbers.now.a.now numbers.now.b.now }
+    requires seated { IsSeated (height system.now) system.now.width (count system.now) lists.now.seats.items }
+    requires columns { AreNonbasic system.now.width lists.now.seats.items lists.now.nonbasic.items }
+    requires square { length lists.now.numbers.items ≡ system.now.width * system.now.width }
+    requires form { (den : ℕ) × IsForm system.now (count system.now) lists.now.seats.items numbers.now.scales.now den lists.now.numbers.items (last_position system.now) }
+    requires refuted { turn system.now (last_position system.now) ≡ is_refuted leaving }
+    ensures within { result ≤ first }
+    ensures bearing { AreUnused system.now leaving result first }
+{
+    let width = system.unknowns();
+    let side = leaving - width;
+    let mut most = if side < first { side + 1 } else { 0 };
+    for column in 0..width {
+        let variable = lists.nonbasic[column];
+        if variable < width {
+            continue;
+        }
+        let row = variable - width;
+        if row < most || first <= row {
+            continue;
+        }
+        if may_have(numbers.a, side, &lists.numbers, width, column) {
+            most = row + 1;
+        }
+    }
+    most
 }
 
 /// The multipliers at the last position of a run in 128 bits, where the row of the side that leaves refutes. The list
