@@ -1,5 +1,5 @@
 -- Where further rows have room with what is kept of positions, all fits there; and what is kept of positions whose numbers are within one limit.
-use Rattle.std.proofs.Common.{◌≡◌, ℕ, zero, suc, ◌+◌, ◌-◌, ◌*◌, ◌^◌, ◌<◌, ◌≤◌, List, length, ℤ, ◌+ℤ◌, ◌*ℤ◌, unsigned_abs, sym, ◌∙◌, ap, subst, arith, le_trans, mul-le-mul_right, mul-le-mul_left, length-append}
+use Rattle.std.proofs.Common.{◌≡◌, ℕ, zero, suc, ◌+◌, ◌-◌, ◌*◌, ◌^◌, ◌<◌, ◌≤◌, List, length, ℤ, ◌+ℤ◌, ◌*ℤ◌, unsigned_abs, sym, ap, subst, arith, le_trans, mul-le-mul_right, mul-le-mul_left, length-append}
 use Rattle.std.proofs.lemmas.Nat.{mul-le}
 use Rattle.std.proofs.lemmas.Int.{unsigned_abs-mul}
 use Rattle.mpc_rows.specs.declared.systems.Row.{Row as LinearRow}
@@ -17,7 +17,7 @@ use Rattle.mpc_whole.specs.SharedSizes.{IsSmallForm, AreSmallBefore}
 use Rattle.mpc_whole.specs.PositionTheorems.{PositionTheorems}
 use Rattle.mpc_whole.specs.Judged.{HasRoomAt, IsLeavingRow, IsSideJudged, IsRowFitting, most_variables, IsWeighedAt, IsMildForm, AreMildBefore, IsMildlyUnderway}
 use Rattle.mpc_whole.specs.Whole.{side_cell}
-use Rattle.mpc_scaled.specs.Scaled.{whole_at, whole_cell, scale_at, IsSmall, IsWholeSystem}
+use Rattle.mpc_scaled.specs.Scaled.{whole_at, whole_cell, scale_at, IsSmall}
 use Rattle.mpc_runs.proofs.Read.{right_side, is_right_side}
 use Rattle.mpc_runs.proofs.Turn.{Goes, turn-at}
 use Rattle.mpc_runs.proofs.WholeSums.{abs-sum}

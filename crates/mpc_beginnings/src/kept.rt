@@ -16,6 +16,7 @@ ghost use Rattle.mpc_whole.specs.Judged.{most_variables};
 ghost use Rattle.mpc_beginnings.specs.Beginnings.{lengthened};
 ghost use Rattle.mpc_beginnings.specs.Broken.{IsBroken, IsBrokenEnd};
 ghost use Rattle.mpc_beginnings.specs.Limit.{IsLimit};
+ghost use Rattle.mpc_beginnings.specs.Meetings.{IsMeeting, IsMeetingEnd};
 ghost use Rattle.mpc_beginnings.specs.RunLists.{lists_of, weight_of, HaveShortValues};
 ghost use Rattle.mpc_beginnings.specs.Open.{IsOpenFor};
 ghost use Rattle.mpc_beginnings.specs.Kept.{AreNumbers, IsSamePlace, IsNormProduct, row_weight, IsLightRow, HasRoomBefore, AreKept, IsFirstLater, IsLonger, IsUnderwayWithin, IsUnderwayWithRoom, IsRefuted, IsMet};
@@ -31,8 +32,8 @@ use mpc_rows::{Multipliers, PairPoint, Row, System};
 use mpc_runs::{End, Standing, zero, zero_pairs};
 use mpc_scaled::{WholeNumbers, WholeSystem};
 use mpc_whole::{
-    Ending, MOST_VARIABLES, Place, RunLists, WidePlace, judged_run, last_multipliers, last_values,
-    limit, position_theorems, whole_run, wide_last_multipliers, wide_last_values,
+    Ending, MOST_VARIABLES, Place, RunLists, WidePlace, bearing_rows, judged_run, last_multipliers,
+    last_values, limit, position_theorems, whole_run, wide_last_multipliers, wide_last_values,
 };
 use std::alloc::{AllocError, Global};
 use std::marker::Model;
@@ -655,6 +656,49 @@ pub enum Broken {
     Refuted(Multipliers),
 }
 
+/// What the run of a system with further rows behind ends with.
+#[derive(Clone, Copy, Drop)]
+pub enum Meeting {
+    /// A point.
+    Point,
+    /// No point, as the further rows show with no more than so many of the first ones.
+    Missed(usize),
+}
+
+/// What a run that ended so tells of its system, where so many of the rows are the first ones. Where its numbers are
+/// wide they all count.
+fn meeting_of(
+    system: &WholeSystem,
+    numbers: &WholeNumbers,
+    lists: &KeptLists,
+    found: (WidePlace, Ending),
+    first: usize,
+) -> Meeting
+    requires numbers { AreNumbers system.now numbers.now }
+    requires kept { AreKept system.now numbers.now.scales.now lists.now found.0 found.1 }
+    requires first { first ≤ height system.now }
+    ensures { IsMeetingEnd system.now first result }
+{
+    match found.1 {
+        Ending::Point => Meeting::Point,
+        Ending::Refuted(_) if lists.is_wide => Meeting::Missed(first),
+        Ending::Refuted(side) => {
+            Meeting::Missed(bearing_rows(system, numbers, &lists.short, side, first))
+        }
+    }
+}
+
+/// Whether it is a point.
+fn is_met(meeting: Option<Meeting>) -> Option<bool>
+    ensures { (s : LinearSystem) (h : ℕ) → IfSome meeting (IsMeetingEnd s h) → IfSome result (IsMet s) }
+{
+    match meeting {
+        Some(Meeting::Point) => Some(true),
+        Some(Meeting::Missed(_)) => Some(false),
+        None => None,
+    }
+}
+
 impl KeptRun {
     /// The run of the system, kept where it ends. `None` where whole numbers don't serve for it.
     pub fn begin(
@@ -850,18 +894,19 @@ impl KeptRun {
         first_run(lists, work, longer, numbers, keeps)
     }
 
-    /// Whether the run of a system with further rows behind this one's ends with a point.
-    fn meets_longer(
+    /// What the run of a system with further rows behind this one's ends with.
+    fn meeting_longer(
         &self,
         work: &mut Workspace,
         longer: &WholeSystem,
-    ) -> Result<Option<bool>, AllocError>
+    ) -> Result<Option<Meeting>, AllocError>
         requires { IsLonger self.now longer.now }
-        ensures { IfOk result (λ o. IfSome o (IsMet longer.now)) }
+        ensures { IfOk result (λ o. IfSome o (IsMeetingEnd longer.now (height self.now))) }
     {
         let numbers = numbers_of(longer);
+        let first = self.system.height();
         match self.run_longer(&mut work.lists, &mut work.rows, longer, &numbers, false)? {
-            Some((_, end)) => Ok(Some(is_point(end))),
+            Some(found) => Ok(Some(meeting_of(longer, &numbers, &work.lists, found, first))),
             None => Ok(None),
         }
     }
@@ -953,21 +998,21 @@ impl KeptRun {
         }
     }
 
-    /// Whether the run of the system with these rows behind its own ends with a point, where the system
-    /// given is this one. It becomes the longer one.
-    fn meets_with(
+    /// What the run of the system with these rows behind its own ends with, where the system given is this one. It
+    /// becomes the longer one.
+    fn meeting_with(
         &self,
         work: &mut Workspace,
         longer: &mut WholeSystem,
         rows: &WholeSystem,
-    ) -> Result<Option<bool>, AllocError>
+    ) -> Result<Option<Meeting>, AllocError>
         requires same { longer.old ≡ self.now }
         requires rows { rows.now.width ≡ self.now.width }
         ensures longer { IsLonger self.now longer.new }
-        ensures met { IfOk result (λ o. IfSome o (IsMet (lengthened self.now rows.now.rows))) }
+        ensures met { IfOk result (λ o. IfSome o (IsMeetingEnd (lengthened self.now rows.now.rows) (height self.now))) }
     {
         longer.append(rows)?;
-        self.meets_longer(work, longer)
+        self.meeting_longer(work, longer)
     }
 
     /// Whether the run of the system with its row at the index, from 0, the other way round behind its own ends with
@@ -983,7 +1028,8 @@ impl KeptRun {
         ensures { IfOk result (λ o. IfSome o (IsMet (lengthened self.now (turned (row_at self.now index) ∷ [])))) }
     {
         if push_turned(longer, index)? {
-            self.meets_longer(work, longer)
+            let meeting = self.meeting_longer(work, longer)?;
+            Ok(is_met(meeting))
         } else {
             Ok(None)
         }
@@ -1010,6 +1056,29 @@ impl KeptRun {
         }
     }
 
+    /// What the run of the system with these rows behind its own ends with, from where this one ends on
+    /// or anew, in a workspace that is open for this run and stays so. `None` where whole numbers don't
+    /// serve for it, and else no number that it forms is wide.
+    ///
+    /// It takes no memory where the lists of the workspace are long enough.
+    pub fn meeting(
+        &self,
+        alloc: Global,
+        work: &mut Workspace,
+        rows: &WholeSystem,
+    ) -> Result<Option<Meeting>, AllocError>
+        requires width { rows.now.width ≡ self.now.width }
+        requires open { IsOpenFor self.now work.old }
+        ensures open { IsOpenFor self.now work.new }
+        ensures meeting { IfOk result (λ o. IfSome o (IsMeeting (lengthened self.now rows.now.rows) (height self.now))) }
+        ensures fits { IfOk result (λ o. IfSome o (λ _. RunFits (lengthened self.now rows.now.rows))) }
+    {
+        let mut system = self.opened(alloc, work)?;
+        let meeting = self.meeting_with(work, &mut system, rows);
+        self.close(work, system);
+        meeting
+    }
+
     /// Whether the run of the system with these rows behind its own ends with a point, from where
     /// this one ends on or anew, in a workspace that is open for this run and stays so. `None` where
     /// whole numbers don't serve for it, and else no number that it forms is wide.
@@ -1028,10 +1097,8 @@ impl KeptRun {
         ensures refuted { IfOk result (λ o. IfSome o (λ yes. yes ≡ false → IsRefuted (lengthened self.now rows.now.rows))) }
         ensures fits { IfOk result (λ o. IfSome o (λ _. RunFits (lengthened self.now rows.now.rows))) }
     {
-        let mut system = self.opened(alloc, work)?;
-        let met = self.meets_with(work, &mut system, rows);
-        self.close(work, system);
-        met
+        let meeting = self.meeting(alloc, work, rows)?;
+        Ok(is_met(meeting))
     }
 
     /// Whether the run of the system with its row at the index, from 0, the other way round behind its own ends with

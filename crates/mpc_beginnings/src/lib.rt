@@ -5,5 +5,5 @@ mod kept;
 mod lists;
 mod theorems;
 
-pub use kept::{Broken, KeptRun, Workspace, whole_end};
+pub use kept::{Broken, KeptRun, Meeting, Workspace, whole_end};
 pub use theorems::shared_beginning;
