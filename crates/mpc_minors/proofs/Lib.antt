@@ -1,0 +1,6 @@
+pub mod Minors
+pub mod Seats
+pub mod Rows
+pub mod Forms
+pub mod Appended
+pub mod Fits
