@@ -28,6 +28,7 @@ use crate::lists::{
 };
 use mpc_frac::Frac;
 use mpc_linear::RowInt;
+use mpc_minors::always_fits;
 use mpc_rows::{Multipliers, PairPoint, Row, System};
 use mpc_runs::{End, Standing, zero, zero_pairs};
 use mpc_scaled::{WholeNumbers, WholeSystem};
@@ -1077,6 +1078,15 @@ impl KeptRun {
         let meeting = self.meeting_with(work, &mut system, rows);
         self.close(work, system);
         meeting
+    }
+
+    /// Whether the sizes of the numbers show that the run of the system with these rows behind its own forms no number
+    /// that is wide, without the run.
+    pub fn fits_with(&self, rows: &WholeSystem) -> bool
+        requires { rows.now.width ≡ self.now.width }
+        ensures { IsTrue result → RunFits (lengthened self.now rows.now.rows) }
+    {
+        always_fits(&self.system, rows)
     }
 
     /// Whether the run of the system with these rows behind its own ends with a point, from where
