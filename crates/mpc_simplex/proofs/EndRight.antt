@@ -1,13 +1,13 @@
 -- Each run ends in exactly one of two ways: with a point, where the system has one, or refuted, where it has none.
-use Rattle.std.proofs.Common.{◌≡◌, ℕ, true, pos, [], ◌∷◌, refl, sym, ◌∙◌, ap, subst, lit<}
+use Rattle.std.proofs.Common.{◌≡◌, ℕ, ◌<◌, ◌⊎◌, true, pos, [], ◌∷◌, refl, sym, ◌∙◌, ap, subst, lit<}
 use Rattle.std.proofs.lemmas.Bool.{both_ways}
 use Rattle.mpc_exact.specs.Rational.{ℚ, int, ◌-ℚ◌, ◌*ℚ◌, inv_ℚ, ◌<ℚ◌}
 use Rattle.mpc_exact.proofs.Rational.{*ℚ_inv}
 use Rattle.mpc_exact.proofs.RationalRing.{reads, by_ring, by_equation}
 use Rattle.mpc_exact.proofs.RationalOrder.{IsPositive, positive_int, positive-mul, inv_positive, by_lt, <ℚ_irrefl}
 use Rattle.mpc_exact.specs.Pair.{Pair}
-use Rattle.mpc_rows.specs.LinearSystem.{LinearSystem}
-use Rattle.mpc_rows.specs.NumberedSystems.{IsPointBy, IsPairPointBy, pair_at, RefutesBy}
+use Rattle.mpc_rows.specs.LinearSystem.{LinearSystem, height, row_at, IsWithin}
+use Rattle.mpc_rows.specs.NumberedSystems.{left_side, IsPointBy, IsPairPointBy, pair_at, RefutesBy}
 use Rattle.mpc_rows.specs.Run.{Turn, has_point, is_refuted, goes_on, value, turn, is_pivot, multiplier, steps, last_position}
 use Rattle.mpc_runs.proofs.Ends.{run_ends}
 use Rattle.mpc_simplex.proofs.Points.{point_right}
@@ -50,5 +50,7 @@ end_right s = end_at s (turn s (last_position s)) refl
 pub point_end : (s : LinearSystem) → turn s (last_position s) ≡ has_point → (v : ℕ → ℚ) × IsPointBy s v
 point_end s e = pair_point_point s (value s (last_position s)) (end_at s has_point e)
 
-pub refuted_end : (s : LinearSystem) (l : ℕ) → turn s (last_position s) ≡ is_refuted l → (v : ℕ → ℚ) → IsPointBy s v → ⊥
+-- and where it is refuted, no point meets the rows whose multipliers aren't 0
+pub refuted_end : (s : LinearSystem) (l : ℕ) → turn s (last_position s) ≡ is_refuted l → (v : ℕ → ℚ)
+    → ((i : ℕ) → i < height s → (multiplier s (last_position s) l i ≡ int (pos 0)) ⊎ IsWithin (row_at s i).strict (left_side s i v) (row_at s i).b) → ⊥
 refuted_end s l e v p = refuted_no_point s (multiplier s (last_position s) l) v (end_at s (is_refuted l) e) p

@@ -1,34 +1,22 @@
--- A run that ends refuted: its multipliers refute the system, and a system with such multipliers has no point.
+-- A run that ends refuted: its multipliers refute the system, and no point meets the rows of a system that such multipliers weigh.
 use Rattle.std.proofs.Common.{◌≡◌, ℕ, zero, suc, ◌+◌, ◌-◌, ◌<◌, ◌≤◌, Bool, true, false, cond, eqb, pos, negsuc, [], ◌∷◌, refl, sym, ◌∙◌, ap, subst, arith, ◌⊎◌, inl, inr, ⊎_elim, eq-eqb, ne_eqb}
 use Rattle.std.proofs.lemmas.Bool.{cond-true, cond-false, cases_eq, cases_Bool, both_ways}
 use Rattle.mpc_exact.specs.Rational.{ℚ, int, ◌+ℚ◌, ◌-ℚ◌, ◌*ℚ◌, neg_ℚ, ◌≤ℚ◌, ◌<ℚ◌}
 use Rattle.mpc_exact.proofs.RationalRing.{reads, by_ring}
-use Rattle.mpc_exact.proofs.RationalOrder.{IsNonneg, IsPositive, nonneg_int, positive-mul, nonneg-mul, positive-add, gap, strict_gap, le_or_lt, ≤ℚ_of_<, <ℚ_irrefl}
+use Rattle.mpc_exact.proofs.RationalOrder.{IsNonneg, IsPositive, nonneg_int, positive-mul, nonneg-mul, gap, strict_gap, le_or_lt, ≤ℚ_of_<, <ℚ_irrefl}
 use Rattle.mpc_exact.proofs.Linear.{linear_le, linear_lt, linear_false, claims, none, le, lt, eq}
 use Rattle.mpc_space.specs.Total.{total, unit}
 use Rattle.mpc_exact.specs.Pair.{Pair}
 use Rattle.mpc_rows.specs.LinearSystem.{LinearSystem, row_at, height, entry, IsWithin}
-use Rattle.mpc_rows.specs.NumberedSystems.{left_side, IsPointBy, RefutesBy}
+use Rattle.mpc_rows.specs.NumberedSystems.{left_side, RefutesBy}
 use Rattle.mpc_rows.specs.Run.{Position, IsTableau, is_refuted, count, bound, rest, value, turn, position, multiplier}
-use Rattle.mpc_space.proofs.Total.{unit-same, unit-other, total-same, total-zeros, total-add, total-scale, total-unit, total-swap, total-nonneg}
+use Rattle.mpc_space.proofs.Total.{unit-same, unit-other, total-same, total-zeros, total-add, total-scale, total-unit, total-swap, total-nonneg, total-positive}
 use Rattle.mpc_runs.proofs.TableauRows.{row_value}
 use Rattle.mpc_runs.proofs.Turn.{turn-at, Leaves, NoneEnters}
 use Rattle.mpc_runs.proofs.LeftSides.{bound-first, bound-second, is_side, with_sides, with_sides-side, with_sides-meet, side_sum, side_unit}
 use Rattle.mpc_runs.proofs.Positions.{tableau, same_rows, rest_side}
 
--- ---- a system with refuting multipliers has no point
-total-positive : (n r : ℕ) (f : ℕ → ℚ) → r < n → ((i : ℕ) → i < n → IsNonneg (f i)) → IsPositive (f r) → IsPositive (total n f)
-unfolding total
-total-positive zero r f l h k = absurd (omega arith)
-total-positive (suc n) r f l h k = by (cases_eq r n) (λ m. total-positive n r f m (λ i j. h i (omega arith)) k)
-  where
-    last : (a b : ℚ) → IsNonneg a → IsPositive b → IsPositive (a +ℚ b)
-    last a b h k = linear_lt (a ∷ b ∷ []) (le h (lt k none)) (search claims depth 40) tt
-
-    by : (r ≡ n) ⊎ (r ≡ n → ⊥) → (r < n → IsPositive (total n f)) → IsPositive (total n f +ℚ f n)
-    by (inl e) m = last (total n f) (f n) (total-nonneg n f (λ i j. h i (omega arith))) (subst (λ z. IsPositive (f z)) e k)
-    by (inr e) m = positive-add (m (omega arith)) (h n (omega arith))
-
+-- ---- no point meets all rows whose multipliers aren't 0, where the multipliers refute the system
 -- the multipliers' sum of the left sides is the dot of their columns' sums with the point
 combined : (s : LinearSystem) (m v : ℕ → ℚ) → total (height s) (λ i. m i *ℚ left_side s i v) ≡ total s.width (λ j. v j *ℚ total (height s) (λ i. m i *ℚ entry s i j))
 combined s m v =
@@ -48,17 +36,26 @@ met_strict : (strict : Bool) (x b : ℚ) → IsWithin strict x b → strict ≡ 
 met_strict true x b h e = h
 met_strict false x b h e = absurd (both_ways false refl e)
 
-module _ (s : LinearSystem) (m v : ℕ → ℚ) (r : RefutesBy s m) (p : IsPointBy s v) where
+module _ (m x b : ℚ) (strict : Bool) where
+  weighed_nonneg : IsNonneg m → (m ≡ int (pos 0)) ⊎ IsWithin strict x b → IsNonneg (m *ℚ (b -ℚ x))
+  weighed_nonneg n (inl e) = subst (λ z. IsNonneg z) (sym (ap (λ u. u *ℚ (b -ℚ x)) e ∙ by_ring (b ∷ x ∷ []) (search reads depth 30) (search reads depth 30) tt)) (nonneg_int 0)
+  weighed_nonneg n (inr h) = nonneg-mul n (gap (met_weak strict x b h))
+
+  weighed_positive : strict ≡ true → IsPositive m → (m ≡ int (pos 0)) ⊎ IsWithin strict x b → IsPositive (m *ℚ (b -ℚ x))
+  weighed_positive e k (inl n) = absurd (<ℚ_irrefl (subst (λ z. IsPositive z) n k))
+  weighed_positive e k (inr h) = positive-mul k (strict_gap (met_strict strict x b h e))
+
+module _ (s : LinearSystem) (m v : ℕ → ℚ) (r : RefutesBy s m) (p : (i : ℕ) → i < height s → (m i ≡ int (pos 0)) ⊎ IsWithin (row_at s i).strict (left_side s i v) (row_at s i).b) where
   slack : ℕ → ℚ
   slack i = m i *ℚ ((row_at s i).b -ℚ left_side s i v)
 
   slack_nonneg : (i : ℕ) → i < height s → IsNonneg (slack i)
   unfolding slack
-  slack_nonneg i h = nonneg-mul (r.nonneg i h) (gap (met_weak (row_at s i).strict (left_side s i v) (row_at s i).b (p.meets i h)))
+  slack_nonneg i h = weighed_nonneg (m i) (left_side s i v) (row_at s i).b (row_at s i).strict (r.nonneg i h) (p i h)
 
   slack_positive : (i : ℕ) → i < height s → (row_at s i).strict ≡ true → IsPositive (m i) → IsPositive (slack i)
   unfolding slack
-  slack_positive i h e k = positive-mul k (strict_gap (met_strict (row_at s i).strict (left_side s i v) (row_at s i).b (p.meets i h) e))
+  slack_positive i h e k = weighed_positive (m i) (left_side s i v) (row_at s i).b (row_at s i).strict e k (p i h)
 
   right : ℚ
   right = total (height s) (λ i. m i *ℚ (row_at s i).b)
