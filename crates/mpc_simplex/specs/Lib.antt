@@ -3,3 +3,4 @@ pub mod Nonbasic
 pub mod Room
 pub mod RunTheorems
 pub mod Broken
+pub mod Misses

@@ -9,11 +9,12 @@ ghost use Rattle.mpc_rows.specs.RunWidth.{RunFits};
 ghost use Rattle.mpc_runs.specs.RunEnd.{IsEnd};
 ghost use Rattle.mpc_simplex.specs.Answer.{IfPoint, IfRefuted, HasPoint, IsRunEnd, EndsRefuted};
 ghost use Rattle.mpc_simplex.specs.Broken.{IfBroken, IfUnbroken};
+ghost use Rattle.mpc_simplex.specs.Misses.{IfMet, IfMissed, MissesFrom};
 ghost use Rattle.mpc_beginnings.specs.Beginnings.{lengthened};
 ghost use Rattle.mpc_beginnings.specs.Open.{IsOpenFor};
 
 use crate::Decision;
-use mpc_beginnings::{Broken as KeptBroken, KeptRun, Workspace};
+use mpc_beginnings::{Broken as KeptBroken, KeptRun, Meeting, Workspace};
 use mpc_frac::NoMemory;
 use mpc_linear::RowInt;
 use mpc_rows::{Multipliers, Row, System, system_theorems};
@@ -190,6 +191,36 @@ impl Beginning {
         rows.has_width();
         let answer = self.run.meets(alloc, work, rows)?;
         Ok(answer)
+    }
+
+    /// The same as `meets`, and where there is no point, how many of the system's first rows suffice for
+    /// that: these rows with the further ones behind have none, whatever rows of the system come between.
+    pub fn meeting(
+        &self,
+        alloc: Global,
+        work: &mut Workspace,
+        rows: &WholeSystem,
+    ) -> Result<Option<Meeting>, NoMemory>
+        requires width { rows.now.width ≡ self.now.width }
+        requires open { IsOpenFor self.now work.old }
+        ensures open { IsOpenFor self.now work.new }
+        ensures point { IfOk result (λ o. IfSome o (λ m. IfMet m (HasPoint (lengthened self.now rows.now.rows)))) }
+        ensures missed { IfOk result (λ o. IfSome o (λ m. IfMissed m (λ k. MissesFrom self.now k rows.now.rows))) }
+        ensures fits { IfOk result (λ o. IfSome o (λ _. RunFits (lengthened self.now rows.now.rows))) }
+    {
+        system_theorems();
+        rows.has_width();
+        let found = self.run.meeting(alloc, work, rows)?;
+        Ok(found)
+    }
+
+    /// Whether the sizes of the system's numbers and of these rows' show that no number of the run of the
+    /// system with the rows behind its own is too wide. No run is made.
+    pub fn fits_with(&self, rows: &WholeSystem) -> bool
+        requires { rows.now.width ≡ self.now.width }
+        ensures { IsTrue result → RunFits (lengthened self.now rows.now.rows) }
+    {
+        self.run.fits_with(rows)
     }
 
     /// Whether the system with the strict row behind its own that is met where this row fails has a

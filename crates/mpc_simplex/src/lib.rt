@@ -16,7 +16,7 @@ mod tableau;
 mod theorems;
 
 pub use beginnings::{Beginning, Broken};
-pub use mpc_beginnings::Workspace;
+pub use mpc_beginnings::{Meeting, Workspace};
 use mpc_rows::{Multipliers, PairPoint, System, system_theorems};
 use run::{fraction_end, run_end};
 use std::alloc::Global;
