@@ -1,5 +1,5 @@
 -- The systems at a node have the rows of its cell first, so their runs go on from the cell's.
-use Rattle.std.proofs.Common.{◌≡◌, ◌↔◌, ℕ, ◌++◌, Bool, IsTrue, List, [], ◌∷◌, length, map, Option, Some, None, Result, Ok, Err, IfSome, IfOk, refl, sym, ◌∙◌, ap, subst}
+use Rattle.std.proofs.Common.{◌≡◌, ℕ, ◌++◌, List, [], ◌∷◌, length, map, Option, Some, None, Result, Ok, Err, IfSome, IfOk, refl, sym, ◌∙◌, ap, subst}
 use Rattle.std.proofs.lemmas.List.{append-nil, append_assoc, length-map}
 use Rattle.mpc_exact.specs.Rational.{int}
 use Rattle.mpc_linear.specs.declared.integers.RowInt.{RowInt}
@@ -8,8 +8,6 @@ use Rattle.mpc_rows.specs.declared.systems.Row.{Row}
 use Rattle.mpc_rows.specs.LinearSystem.{LinearSystem}
 use Rattle.mpc_rows.specs.LawRows.{whole_row, broken_row}
 use Rattle.mpc_rows.specs.SetRuns.{box_rows}
-use Rattle.mpc_rows.specs.RunWidth.{RunFits}
-use Rattle.mpc_simplex.specs.Answer.{HasPoint}
 use Rattle.mpc_beginnings.specs.Beginnings.{lengthened}
 use Rattle.mpc_systems.specs.Systems.{meet_system, hold_system}
 use Rattle.mpc_systems.specs.Writing.{IsOfSize}
@@ -56,7 +54,7 @@ module _ (qp : Qp) (cell : List Row) where
   module _ (run : Option LinearSystem) (of_cell : IsRunOf qp cell run) where
     -- a run that is kept
     module _ (s : LinearSystem) (is : run ≡ Some s) where
-      kept : s ≡ boxed_cell qp cell
+      pub kept : s ≡ boxed_cell qp cell
       kept = subst (λ o. IsRunOf qp cell o) is of_cell
 
       kept_width : length qp.counts ≡ s.width
@@ -73,14 +71,8 @@ module _ (qp : Qp) (cell : List Row) where
         pub behind_width : t.width ≡ s.width
         behind_width = ap (λ (u : LinearSystem). u.width) e ∙ wide ∙ kept_width
 
-        behind_rows : lengthened s t.rows ≡ meet_system qp cell rows
+        pub behind_rows : lengthened s t.rows ≡ meet_system qp cell rows
         behind_rows = ap (λ (u : LinearSystem). lengthened s u.rows) e ∙ meets_from rows
-
-        pub behind_answer : {E : Type 0} (r : Result (Option Bool) E) → IfOk r (λ o. IfSome o (λ yes. IsTrue yes ↔ HasPoint (lengthened s t.rows))) → IfOk r (λ o. IfSome o (λ yes. IsTrue yes ↔ HasPoint (meet_system qp cell rows)))
-        behind_answer r h = subst (λ u. IfOk r (λ o. IfSome o (λ yes. IsTrue yes ↔ HasPoint u))) behind_rows h
-
-        pub behind_fits : {E : Type 0} (r : Result (Option Bool) E) → IfOk r (λ o. IfSome o (λ _. RunFits (lengthened s t.rows))) → IfOk r (λ o. IfSome o (λ _. RunFits (meet_system qp cell rows)))
-        behind_fits r h = subst (λ u. IfOk r (λ o. IfSome o (λ _. RunFits u))) behind_rows h
 
       pub row_size : (row : RowInt) → IsOfSize (length qp.counts) row → length row.a ≡ s.width
       row_size row h = h.size ∙ kept_width

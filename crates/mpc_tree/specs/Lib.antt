@@ -3,6 +3,7 @@ pub mod Trees
 pub mod CellRuns
 pub mod LeafCerts
 pub mod Ends
+pub mod Missed
 pub mod NodeRuns
 pub mod WideRuns
 pub mod Borders

@@ -9,13 +9,14 @@ ghost use Rattle.mpc_tree.specs.Pieces.{AreSides, AreJoined, EndsRefused, IsOpen
 
 use crate::borders::Border;
 use crate::errors::TreeError;
+use crate::missed::{Missed, Search};
 use crate::nodes::{Placed, Visit, place_node};
 use crate::runs::{KeptCell, copied_rows};
 use crate::threads::Grow;
 use mpc_frac::NoMemory;
 use mpc_linear::RowInt;
 use mpc_rows::{LawTable, Node, Place, Qp, Tree};
-use mpc_simplex::{Beginning, Workspace};
+use mpc_simplex::Beginning;
 use mpc_systems::{broken_row, cell_theorems, whole_row};
 use std::alloc::Global;
 
@@ -95,7 +96,7 @@ fn split(
 /// The pieces that a cell is divided into: a leaf, a split with both sides open, or a refusal.
 fn divided_cell(
     alloc: Global,
-    work: &mut Workspace,
+    kept: &mut Search,
     qp: &Qp,
     laws: &LawTable,
     borders: &[Border],
@@ -111,8 +112,9 @@ fn divided_cell(
     ensures finer { IfOk result (λ pieces. IsFiner qp.now laws.now (Piece.Open cell next ∷ []) pieces.items) }
 {
     cell_theorems();
+    kept.missed = Missed::new(alloc, 0)?;
     let at = Visit { next, node: 1 };
-    match place_node(alloc, work, qp, laws, borders, &cell, at) {
+    match place_node(alloc, kept, qp, laws, borders, &cell, at) {
         Ok(Placed::Split { place, row, run }) => {
             let row = &borders[place].as_slice()[row];
             split(alloc, cell, row, run, place)
@@ -137,7 +139,7 @@ fn ends_refused(pieces: &[Piece]) -> bool
 /// else itself.
 fn divided(
     alloc: Global,
-    work: &mut Workspace,
+    kept: &mut Search,
     qp: &Qp,
     laws: &LawTable,
     borders: &[Border],
@@ -157,7 +159,7 @@ fn divided(
     match piece {
         Piece::Open { cell, next } => {
             *left -= 1;
-            divided_cell(alloc, work, qp, laws, borders, cell, next)
+            divided_cell(alloc, kept, qp, laws, borders, cell, next)
         }
         other => one(alloc, other),
     }
@@ -167,7 +169,7 @@ fn divided(
 /// refused cell is left out: whatever it says, what stands before it answers.
 fn finer(
     alloc: Global,
-    work: &mut Workspace,
+    kept: &mut Search,
     qp: &Qp,
     laws: &LawTable,
     borders: &[Border],
@@ -184,7 +186,7 @@ fn finer(
     let mut finer = Vec::new(alloc);
     let mut left = most;
     for piece in pieces {
-        let mut new = divided(alloc, work, qp, laws, borders, piece, &mut left)?;
+        let mut new = divided(alloc, kept, qp, laws, borders, piece, &mut left)?;
         finer.append(&mut new)?;
         if ends_refused(&finer) {
             return Ok(finer);
@@ -208,8 +210,8 @@ pub fn all_divided(
     ensures open { IfOk result (λ finer. All (IsOpen qp.now laws.now) finer.items) }
     ensures finer { IfOk result (λ finer. IsFiner qp.now laws.now pieces.items finer.items) }
 {
-    let mut work = Workspace::new(alloc);
-    finer(alloc, &mut work, qp, laws, borders, pieces, usize::MAX)
+    let mut kept = Search::new(alloc, 0)?;
+    finer(alloc, &mut kept, qp, laws, borders, pieces, usize::MAX)
 }
 
 /// Whether the piece is an open cell.
@@ -299,7 +301,7 @@ pub fn pieces_of<G: Grow>(
     ensures open { IfOk result (λ pieces. All (IsOpen qp.now laws.now) pieces.items) }
     ensures finer { IfOk result (λ pieces. IsFiner qp.now laws.now (Piece.Open cell next ∷ []) pieces.items) }
 {
-    let mut work = Workspace::new(alloc);
+    let mut kept = Search::new(alloc, 0)?;
     let mut pieces = Vec::new(alloc);
     pieces.push(Piece::Open { cell, next })?;
     for round in 0..MOST_ROUNDS {
@@ -308,7 +310,7 @@ pub fn pieces_of<G: Grow>(
             break;
         }
         pieces = if round < FIRST_NODES {
-            finer(alloc, &mut work, qp, laws, borders, pieces, 1)?
+            finer(alloc, &mut kept, qp, laws, borders, pieces, 1)?
         } else {
             by.all_finer(alloc, qp, laws, borders, pieces)?
         };

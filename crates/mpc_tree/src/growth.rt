@@ -11,13 +11,14 @@ ghost use Rattle.mpc_tree.specs.WideRuns.{IsFirstWide};
 
 use crate::borders::Border;
 use crate::errors::{Stop, TreeError};
+use crate::missed::Search;
 use crate::nodes::{Placed, Visit, place_node};
 use crate::refusals::{Watch, is_called_off};
 use crate::runs::KeptCell;
 use mpc_frac::NoMemory;
 use mpc_linear::RowInt;
 use mpc_rows::{LawTable, Node, Qp, Row, Tree};
-use mpc_simplex::{Beginning, Workspace};
+use mpc_simplex::Beginning;
 use mpc_systems::{broken_row, cell_theorems, whole_row};
 use std::alloc::Global;
 
@@ -114,7 +115,7 @@ pub fn grown(
     cell_theorems();
     let mut tree = Tree::new(alloc);
     let mut sides = Vec::new(alloc);
-    let mut work = Workspace::new(alloc);
+    let mut kept = Search::new(alloc, borders.len())?;
     let mut held = 0;
     'nodes: loop {
         if is_called_off(&watch) {
@@ -124,7 +125,7 @@ pub fn grown(
             next,
             node: tree.len() as u64 + 1,
         };
-        match place_node(alloc, &mut work, qp, laws, borders, &cell, at) {
+        match place_node(alloc, &mut kept, qp, laws, borders, &cell, at) {
             Ok(Placed::Split { place, row, run }) => {
                 let rows = borders[place].as_slice();
                 open_split(
@@ -136,7 +137,10 @@ pub fn grown(
             Ok(Placed::Leaf(leaf)) => {
                 tree.push(leaf)?;
                 match sides.pop() {
-                    Some(side) => next = enter(&mut cell, side)?,
+                    Some(side) => {
+                        kept.missed.forget(side.shared);
+                        next = enter(&mut cell, side)?;
+                    }
                     None => {
                         tree.shrink_to_fit();
                         return Ok(tree);

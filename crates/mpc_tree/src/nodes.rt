@@ -1,6 +1,6 @@
 //! What stands at one node of the tree.
 
-ghost use Rattle.std.specs.Prelude.{◌≡◌, ◌+◌, ◌<◌, ◌≤◌, ◌^◌, ◌↔◌, Some, All, IsTrue, IfOk, IfErr, IfSome, MatchOption, MatchResult, length};
+ghost use Rattle.std.specs.Prelude.{◌≡◌, ◌+◌, ◌<◌, ◌≤◌, ◌^◌, Some, All, IsTrue, IfOk, IfErr, IfSome, MatchOption, MatchResult, OnOk, length};
 ghost use Rattle.mpc_rows.specs.RunWidth.{RunFits};
 ghost use Rattle.mpc_simplex.specs.Answer.{HasPoint, IfWide as IfRunWide};
 ghost use Rattle.mpc_systems.specs.Writing.{HasBoxWidth, IsOfSize, AreOfSize};
@@ -11,18 +11,20 @@ ghost use Rattle.mpc_tree.specs.Cells.{NoneMeetsBefore};
 ghost use Rattle.mpc_tree.specs.Ends.{IsEndOf};
 ghost use Rattle.mpc_tree.specs.Growth.{RegionsCover, IsFirstMeeting, IsHeld, NamesWideRow, IsPlaced};
 ghost use Rattle.mpc_tree.specs.LeafCerts.{IsCertOf};
+ghost use Rattle.mpc_tree.specs.Missed.{AreMissed, IsRegion};
 ghost use Rattle.mpc_systems.specs.Systems.{meet_system, hold_system, joint_system};
 ghost use Rattle.mpc_tree.specs.WideRuns.{IsWideAt};
 
 use crate::borders::Border;
 use crate::certs::{End, broken_end, plain_end};
 use crate::errors::TreeError;
+use crate::missed::Search;
 use crate::runs::KeptCell;
 use mpc_frac::NoMemory;
 use mpc_linear::RowInt;
 use mpc_region::has_point;
 use mpc_rows::{Cert, Certs, LawTable, Node, Place, Qp, Row};
-use mpc_simplex::{Beginning, SimplexError, Workspace};
+use mpc_simplex::{Beginning, Meeting, SimplexError, Workspace};
 use mpc_systems::{cell_theorems, hold_system, joint_system, meet_system};
 use std::alloc::Global;
 
@@ -46,6 +48,15 @@ pub enum Held {
     Holds(Certs),
 }
 
+/// Where a region lies to a cell.
+#[derive(Clone, Copy, Drop)]
+pub enum Region {
+    /// It meets the cell.
+    Met,
+    /// It doesn't, as so many first rows of the cell are enough to show.
+    Missed(usize),
+}
+
 /// What stands at a node.
 #[derive(Drop)]
 pub enum Placed {
@@ -61,25 +72,32 @@ pub enum Placed {
 }
 
 /// Whether the region with these rows meets the cell, by the run that is kept of the cell. Nothing where none is, or where whole numbers
-/// don't serve.
+/// don't serve. The first rows of the run are those of the box, two for each count.
 fn kept_answer(
     alloc: Global,
     work: &mut Workspace,
     qp: &Qp,
     cell: &KeptCell,
     border: &Border,
-) -> Result<Option<bool>, NoMemory>
+) -> Result<Option<Region>, NoMemory>
     requires run { IsRunOf qp.now cell.now.rows.items cell.now.run }
     requires open { IsOpenAt cell.now.run work.old }
     ensures open { IsOpenAt cell.now.run work.new }
-    ensures answer { IfOk result (λ o. IfSome o (λ yes. IsTrue yes ↔ HasPoint (meet_system qp.now cell.now.rows.items border.now))) }
+    ensures answer { IfOk result (λ o. IfSome o (IsRegion qp.now cell.now.rows.items border.now)) }
     ensures fits { IfOk result (λ o. IfSome o (λ _. RunFits (meet_system qp.now cell.now.rows.items border.now))) }
 {
     let Some(run) = &cell.run else {
         return Ok(None);
     };
-    match border.whole(qp.counts.len()) {
-        Some(rows) => run.meets(alloc, work, rows),
+    let Some(rows) = border.whole(qp.counts.len()) else {
+        return Ok(None);
+    };
+    match run.meeting(alloc, work, rows)? {
+        Some(Meeting::Point) => Ok(Some(Region::Met)),
+        Some(Meeting::Missed(first)) => {
+            let own = first.saturating_sub(2 * qp.counts.len());
+            Ok(Some(Region::Missed(own)))
+        }
         None => Ok(None),
     }
 }
@@ -91,25 +109,44 @@ fn region_meets(
     qp: &Qp,
     cell: &KeptCell,
     border: &Border,
-) -> Result<bool, SimplexError>
+) -> Result<Region, SimplexError>
     requires cell { HasBoxWidth qp.now cell.now.rows.items }
     requires run { IsRunOf qp.now cell.now.rows.items cell.now.run }
     requires open { IsOpenAt cell.now.run work.old }
     requires plain { AreOfSize (length qp.now.counts) border.now }
     ensures open { IsOpenAt cell.now.run work.new }
-    ensures answer { IfOk result (λ yes. IsTrue yes ↔ HasPoint (meet_system qp.now cell.now.rows.items border.now)) }
+    ensures answer { IfOk result (IsRegion qp.now cell.now.rows.items border.now) }
     ensures wide { MatchResult result (λ _. RunFits (meet_system qp.now cell.now.rows.items border.now))
         (λ e. IfRunWide e (¬ RunFits (meet_system qp.now cell.now.rows.items border.now))) }
 {
     match kept_answer(alloc, work, qp, cell, border) {
-        Ok(Some(meets)) => return Ok(meets),
+        Ok(Some(region)) => return Ok(region),
         Ok(None) => {}
         Err(NoMemory) => return Err(SimplexError::NoMemory),
     }
     let Ok(system) = meet_system(alloc, qp, &cell.rows, border.as_slice()) else {
         return Err(SimplexError::NoMemory);
     };
-    has_point(alloc, &system)
+    match has_point(alloc, &system) {
+        Ok(true) => Ok(Region::Met),
+        Ok(false) => Ok(Region::Missed(cell.rows.len())),
+        Err(error) => Err(error),
+    }
+}
+
+/// Whether it is seen without a run that the one that asks for a point of the cell in the region with
+/// these rows fits.
+fn fits_behind(qp: &Qp, cell: &KeptCell, border: &Border) -> bool
+    requires { IsRunOf qp.now cell.now.rows.items cell.now.run }
+    ensures { IsTrue result → RunFits (meet_system qp.now cell.now.rows.items border.now) }
+{
+    let Some(run) = &cell.run else {
+        return false;
+    };
+    match border.whole(qp.counts.len()) {
+        Some(rows) => run.fits_with(rows),
+        None => false,
+    }
 }
 
 /// A certificate that the row holds on the cell, or else that it fails at a state of the cell.
@@ -142,10 +179,11 @@ fn hold_end(
     plain_end(alloc, &system)
 }
 
-/// The place of the first law, from the next one on, whose region meets the cell of the node.
+/// The place of the first law, from the next one on, whose region meets the cell of the node. A law
+/// that is known to be missed is passed over where its run is seen to fit, so no refusal is lost.
 fn first_meeting(
     alloc: Global,
-    work: &mut Workspace,
+    kept: &mut Search,
     qp: &Qp,
     laws: &LawTable,
     borders: &[Border],
@@ -156,18 +194,24 @@ fn first_meeting(
     requires borders { AreBorders qp.now laws.now borders.now }
     requires cell { HasBoxWidth qp.now cell.now.rows.items }
     requires run { IsRunOf qp.now cell.now.rows.items cell.now.run }
-    requires open { IsOpenAt cell.now.run work.old }
+    requires open { IsOpenAt cell.now.run kept.old.work }
+    requires missed { AreMissed qp.now borders.now cell.now.rows.items kept.old.missed }
     requires before { NoneMeetsBefore qp.now laws.now cell.now.rows.items at.next }
-    ensures open { IsOpenAt cell.now.run work.new }
+    ensures open { IsOpenAt cell.now.run kept.new.work }
+    ensures missed { OnOk result (AreMissed qp.now borders.now cell.now.rows.items kept.new.missed) }
     ensures first { IfOk result (λ o. IsFirstMeeting qp.now laws.now (record { rows = cell.now.rows.items; next = at.next }) o) }
     ensures below { IfOk result (λ o. MatchOption o (at.next ≡ at.next) (λ place. (at.next ≤ place) × (place < length laws.now))) }
     ensures wide { IfErr result (λ e. IfWide e (IsWideAt qp.now laws.now (record { rows = cell.now.rows.items; next = at.next }) at.node)) }
 {
     cell_theorems();
     for place in at.next..laws.len() {
-        match region_meets(alloc, work, qp, cell, &borders[place]) {
-            Ok(true) => return Ok(Some(place)),
-            Ok(false) => {}
+        let border = &borders[place];
+        if kept.missed.knows(place) && fits_behind(qp, cell, border) {
+            continue;
+        }
+        match region_meets(alloc, &mut kept.work, qp, cell, border) {
+            Ok(Region::Met) => return Ok(Some(place)),
+            Ok(Region::Missed(rows)) => kept.missed.note(place, rows),
             Err(SimplexError::Wide) => {
                 return Err(TreeError::Wide(Place::Meet(at.node, place as u32 + 1)));
             }
@@ -232,7 +276,7 @@ fn joint_cert(alloc: Global, qp: &Qp, cell: &[Row], node: u64) -> Result<Cert, T
 /// What stands at the node of the cell.
 pub fn place_node(
     alloc: Global,
-    work: &mut Workspace,
+    kept: &mut Search,
     qp: &Qp,
     laws: &LawTable,
     borders: &[Border],
@@ -244,13 +288,15 @@ pub fn place_node(
     requires cell { HasBoxWidth qp.now cell.now.rows.items }
     requires run { IsRunOf qp.now cell.now.rows.items cell.now.run }
     requires cover { RegionsCover qp.now laws.now }
+    requires missed { AreMissed qp.now borders.now cell.now.rows.items kept.old.missed }
     requires before { NoneMeetsBefore qp.now laws.now cell.now.rows.items at.next }
+    ensures missed { OnOk result (AreMissed qp.now borders.now cell.now.rows.items kept.new.missed) }
     ensures placed { IfOk result (λ p. IsPlaced qp.now laws.now borders.now (record { rows = cell.now.rows.items; next = at.next }) p) }
     ensures wide { IfErr result (λ e. IfWide e (IsWideAt qp.now laws.now (record { rows = cell.now.rows.items; next = at.next }) at.node)) }
 {
     cell_theorems();
-    cell.open(alloc, work)?;
-    match first_meeting(alloc, work, qp, laws, borders, cell, at)? {
+    cell.open(alloc, &mut kept.work)?;
+    match first_meeting(alloc, kept, qp, laws, borders, cell, at)? {
         None => {
             let cert = joint_cert(alloc, qp, &cell.rows, at.node)?;
             Ok(Placed::Leaf(Node::NoMove { cert }))
@@ -259,7 +305,7 @@ pub fn place_node(
             let law = place as u32 + 1;
             match first_failing(
                 alloc,
-                work,
+                &mut kept.work,
                 qp,
                 borders[place].as_slice(),
                 cell,

@@ -1,6 +1,6 @@
-use Rattle.std.proofs.Common.{◌≡◌, ◌∙◌, ◌+◌, ◌<◌, inl, Some, slice_get, sym, arith, refl, length}
+use Rattle.std.proofs.Common.{◌≡◌, ◌+◌, ◌<◌, inl, Some, slice_get, arith, refl, length}
 use Rattle.std.proofs.lemmas.Option.{slice_get_read}
-use Rattle.mpc_tree.proofs.CertLists.{false_true}
+use Rattle.mpc_tree.proofs.MissedLaws.{missed_now, missed_noted}
 use Rattle.mpc_tree.proofs.NodeLemmas.{law_of, border_of, meets_none, meets_fit, meets_first, meets_wide}
 use Rattle.mpc_tree.proofs.nodes.first_meeting.Goals as goal
 use Rattle.mpc_tree.proofs.nodes.first_meeting.Goals.{After-index-borders-place}
@@ -16,22 +16,35 @@ region_meets-requires-clause-plain c =
     let law = law_of c.args.qp.now c.args.laws.now c.args.borders.now c.requires.borders c.args.cell.now.rows.items c.loop-place.place c.index-borders-place.result is in
     (border_of c.args.qp.now c.args.laws.now c.args.borders.now c.requires.borders c.args.cell.now.rows.items c.loop-place.place c.index-borders-place.result is law.0 law.1).plain
 
-pub returns-in-Ok-true-clause-first : goal.returns-in-Ok-true-clause-first
-returns-in-Ok-true-clause-first c =
-    let is = is_border (goal.at.returns-in-Ok-true-clause-first c).After-index-borders-place in
-    let first = meets_first c.args.qp.now c.args.laws.now c.args.borders.now c.requires.borders c.args.cell.now.rows.items c.loop-place.place c.index-borders-place.result is c.cell_theorems.ensures c.loop-place.invariant.none (c.in-Ok-true.ensures.answer.0 c.in-Ok-true.field-0-test) in
-    record { law = first.0; first = first.1; fits = meets_fit c.args.qp.now c.args.laws.now c.args.borders.now c.requires.borders c.args.cell.now.rows.items c.loop-place.place c.index-borders-place.result is c.args.at.next c.loop-place.invariant.fits c.in-Ok-true.ensures.wide }
+pub returns-in-Ok-Met-clause-first : goal.returns-in-Ok-Met-clause-first
+returns-in-Ok-Met-clause-first c =
+    let is = is_border (goal.at.returns-in-Ok-Met-clause-first c).After-index-borders-place in
+    let first = meets_first c.args.qp.now c.args.laws.now c.args.borders.now c.requires.borders c.args.cell.now.rows.items c.loop-place.place c.index-borders-place.result is c.cell_theorems.ensures c.loop-place.invariant.none (rw c.in-Ok-Met.field-0-is at c.in-Ok-Met.ensures.answer) in
+    record { law = first.0; first = first.1; fits = meets_fit c.args.qp.now c.args.laws.now c.args.borders.now c.requires.borders c.args.cell.now.rows.items c.loop-place.place c.index-borders-place.result is c.args.at.next c.loop-place.invariant.fits c.in-Ok-Met.ensures.wide }
 
 pub returns-in-Err-Wide-clause-wide : goal.returns-in-Err-Wide-clause-wide
 returns-in-Err-Wide-clause-wide c =
     let is = is_border (goal.at.returns-in-Err-Wide-clause-wide c).After-index-borders-place in
     inl (c.loop-place.place + 1, refl, meets_wide c.args.qp.now c.args.laws.now c.args.borders.now c.requires.borders c.args.cell.now.rows.items c.loop-place.place c.index-borders-place.result is c.args.at.next (omega arith) c.loop-place.invariant.none c.loop-place.invariant.fits (rw c.in-Err-Wide.field-0-is at c.in-Err-Wide.ensures.wide))
 
+pub loop-place-preserved-then-fits_behind : goal.loop-place-preserved-then-fits_behind
+loop-place-preserved-then-fits_behind c =
+    let is = is_border (goal.at.loop-place-preserved-then-fits_behind c).After-index-borders-place in
+    let missed = c.loop-place.invariant.missed.each c.loop-place.place c.index-borders-place.result is (c.knows.ensures.0 c.if-knows.true) in
+    record {
+      none = meets_none c.args.qp.now c.args.laws.now c.args.borders.now c.requires.borders c.args.cell.now.rows.items c.loop-place.place c.index-borders-place.result is c.cell_theorems.ensures c.loop-place.invariant.none (missed_now c.args.qp.now c.index-borders-place.result c.args.cell.now.rows.items _ missed);
+      fits = meets_fit c.args.qp.now c.args.laws.now c.args.borders.now c.requires.borders c.args.cell.now.rows.items c.loop-place.place c.index-borders-place.result is c.args.at.next c.loop-place.invariant.fits (c.fits_behind.ensures c.if-fits_behind.true);
+      opened = c.loop-place.invariant.opened;
+      missed = c.loop-place.invariant.missed;
+    }
+
 pub loop-place-preserved : goal.loop-place-preserved
 loop-place-preserved c =
     let is = is_border (goal.at.loop-place-preserved c).After-index-borders-place in
+    let missed = rw c.in-Ok-Missed.field-0-is at c.in-Ok-Missed.ensures.answer in
     record {
-      none = meets_none c.args.qp.now c.args.laws.now c.args.borders.now c.requires.borders c.args.cell.now.rows.items c.loop-place.place c.index-borders-place.result is c.cell_theorems.ensures c.loop-place.invariant.none (λ p. false_true (sym c.in-Ok-false.field-0-test ∙ c.in-Ok-false.ensures.answer.1 p));
-      fits = meets_fit c.args.qp.now c.args.laws.now c.args.borders.now c.requires.borders c.args.cell.now.rows.items c.loop-place.place c.index-borders-place.result is c.args.at.next c.loop-place.invariant.fits c.in-Ok-false.ensures.wide;
-      opened = c.in-Ok-false.ensures.open;
+      none = meets_none c.args.qp.now c.args.laws.now c.args.borders.now c.requires.borders c.args.cell.now.rows.items c.loop-place.place c.index-borders-place.result is c.cell_theorems.ensures c.loop-place.invariant.none (missed_now c.args.qp.now c.index-borders-place.result c.args.cell.now.rows.items c.in-Ok-Missed.rows missed);
+      fits = meets_fit c.args.qp.now c.args.laws.now c.args.borders.now c.requires.borders c.args.cell.now.rows.items c.loop-place.place c.index-borders-place.result is c.args.at.next c.loop-place.invariant.fits c.in-Ok-Missed.ensures.wide;
+      opened = c.in-Ok-Missed.ensures.open;
+      missed = missed_noted c.args.qp.now c.args.borders.now c.args.cell.now.rows.items c.loop-place.kept.missed c.loop-place.invariant.missed c.loop-place.place c.in-Ok-Missed.rows c.index-borders-place.result is missed c.note.new.self c.note.ensures;
     }

@@ -1,0 +1,28 @@
+-- What is known of the laws whose regions don't meet a cell.
+use Rattle.std.specs.Prelude.{◌≡◌, ℕ, ◌<◌, ◌≤◌, cond, nat_lt, List, length, take, get_or, Some, slice_get}
+use Rattle.mpc_linear.specs.declared.integers.RowInt.{RowInt}
+use Rattle.mpc_rows.specs.declared.programs.Qp.{Qp}
+use Rattle.mpc_rows.specs.declared.systems.Row.{Row}
+use Rattle.mpc_simplex.specs.Answer.{HasPoint}
+use Rattle.mpc_systems.specs.Systems.{meet_system}
+use Rattle.mpc_tree.specs.declared.missed.TheConstants.{UNKNOWN}
+use Rattle.mpc_tree.specs.declared.nodes.Region.{Region}
+use Rattle.mpc_tree.specs.declared.nodes.Region.TheVariants.{Met, Missed}
+
+-- the first k rows of the cell are enough to show that no point of it meets the rows of a law
+pub record IsMissed (qp : Qp) (cell : List Row) (border : List RowInt) (k : ℕ) : Type 0 where
+  pub within : k ≤ length cell
+  pub no_point : ¬ HasPoint (meet_system qp (take k cell) border)
+
+-- so many are, where the region doesn't meet the cell
+abbrev pub IsRegion : Qp → List Row → List RowInt → Region → Type 0
+IsRegion qp cell border Met = HasPoint (meet_system qp cell border)
+IsRegion qp cell border (Missed k) = IsMissed qp cell border k
+
+-- each entry that is known is of as many rows as are enough
+pub record AreMissed (qp : Qp) (borders : List (List RowInt)) (cell : List Row) (entries : List ℕ) : Type 0 where
+  pub each : (place : ℕ) (border : List RowInt) → slice_get borders place ≡ Some border → get_or entries place UNKNOWN < UNKNOWN → IsMissed qp cell border (get_or entries place UNKNOWN)
+
+-- an entry, if it is of rows among the first so many
+abbrev pub entry_within : ℕ → ℕ → ℕ
+entry_within shared k = cond (nat_lt shared k) UNKNOWN k
