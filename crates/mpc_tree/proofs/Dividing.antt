@@ -23,7 +23,7 @@ use Rattle.mpc_tree.specs.declared.growth.OpenSide.{OpenSide}
 use Rattle.mpc_tree.specs.Borders.{IsBorder, AreBorders}
 use Rattle.mpc_tree.specs.CellRuns.{IsRunOf}
 use Rattle.mpc_tree.specs.Cells.{RegionMeets, NoneFailsBefore}
-use Rattle.mpc_tree.specs.Growth.{IsReady, IsSplitAt, IsLeafAt, IsBuilt}
+use Rattle.mpc_tree.specs.Growth.{IsReady, MeetsNext, IsSplitAt, IsLeafAt, IsBuilt}
 use Rattle.mpc_tree.specs.NodeRuns.{DividesAndFits, EndsAndFits, IsFittingTree}
 use Rattle.mpc_tree.specs.Trees.{Cell, yes_side, no_side, split}
 use Rattle.mpc_tree.specs.WideRuns.{IsFirstWide, in_yes, in_no}
@@ -144,6 +144,26 @@ module _ (qp : Qp) (laws : List Law) (borders : List (List RowInt)) (are : AreBo
       wide_here = wide_here;
       wide_later = λ at first b w. wide_later at first b (subst (λ os. IsWideAmong qp laws longer os (length (nodes ++ Split s.row ∷ []) + 1 + length first) at) turned w);
     }
+
+  -- the law that met the cell meets the yes side: its own row holds in its region
+  known_yes : CellTheorems → MeetsNext qp laws (yes_side cell place s.row)
+  known_yes points =
+      let m : RegionMeets qp cell.rows s.divides.divides.law = s.divides.divides.first.meets in
+      record {
+        law = s.divides.divides.law;
+        is = s.divides.divides.first.is;
+        meets = record {
+          state = m.state;
+          in_cell = record {
+            in_box = m.in_cell.in_box;
+            meets = All-append (MeetsRow m.state) cell.rows (whole_row s.row ∷ []) m.in_cell.meets (All-from_recursion (MeetsRow m.state) (whole_row s.row ∷ []) (region_row points qp s.divides.divides.law border.is_law s.rows border.of_law m.state m.in_region i s.row s.is_row, tt));
+          };
+          in_region = m.in_region;
+        };
+      }
+
+  pub known_at : CellTheorems → (row : RowInt) → row ≡ s.row → (path : List Row) → path ≡ cell.rows ++ whole_row row ∷ [] → MeetsNext qp laws (record { rows = path; next = place })
+  known_at points row e path p = subst (λ x. MeetsNext qp laws (record { rows = x; next = place })) (sym (p ∙ ap (λ r. cell.rows ++ whole_row r ∷ []) e)) (known_yes points)
 
   -- the rows and the row as they are read
   pub rows_read : (border slice : List RowInt) → border ≡ get_or borders place border → slice ≡ border → slice ≡ s.rows

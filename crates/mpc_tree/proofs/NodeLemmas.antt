@@ -19,6 +19,7 @@ use Rattle.mpc_simplex.specs.Answer.{HasPoint}
 use Rattle.mpc_systems.specs.Writing.{HasBoxWidth}
 use Rattle.mpc_tree.specs.Borders.{IsBorder, AreBorders}
 use Rattle.mpc_tree.specs.Cells.{IsInCell, RegionMeets, LiesInRegion, FailsOn, NoneMeetsBefore, IsFirstToMeet, NoneFailsBefore}
+use Rattle.mpc_tree.specs.Growth.{MeetsNext, IsMeeting}
 use Rattle.mpc_tree.specs.LeafCerts.{IsCertOf, AreCertsOf}
 use Rattle.mpc_tree.specs.NodeRuns.{MeetsFit, HoldsFit}
 use Rattle.mpc_systems.specs.CellTheorems.{CellTheorems}
@@ -71,6 +72,13 @@ module _ (qp : Qp) (laws : List Law) (borders : List (List RowInt)) (are : AreBo
   meets_first points before h =
       let border = border_of law_of.0 law_of.1 in
       (law_of.0, record { is = law_of.1; meets = (region_meets points qp law_of.0 border.is_law rows border.of_law cell).1 h; before = before })
+
+  pub meets_known : MeetsNext qp laws (record { rows = cell; next = place }) → NoneMeetsBefore qp laws cell place → RunFits (meet_system qp cell rows) → IsMeeting qp laws (record { rows = cell; next = place }) place
+  meets_known m before h = record {
+    law = m.law;
+    first = record { is = m.is; meets = m.meets; before = before };
+    fits = meets_fit place (λ i law low l k. absurd (omega arith)) h;
+  }
 
   pub meets_wide : (next : ℕ) → next ≤ place → NoneMeetsBefore qp laws cell place → MeetsFit qp laws (record { rows = cell; next = next }) place → (¬ RunFits (meet_system qp cell rows)) → IsWideMeet qp laws (record { rows = cell; next = next }) (place + 1)
   meets_wide next reached none fit h = record {

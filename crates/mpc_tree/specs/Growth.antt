@@ -11,13 +11,15 @@ use Rattle.mpc_rows.specs.declared.places.Place.TheVariants.{Holds as HoldRun}
 use Rattle.mpc_rows.specs.ActiveSets.{IsFeasible}
 use Rattle.mpc_rows.specs.Laws.{IsInRegion}
 use Rattle.mpc_rows.specs.LawRows.{broken_row}
+use Rattle.mpc_rows.specs.RunWidth.{RunFits}
+use Rattle.mpc_systems.specs.Systems.{meet_system}
 use Rattle.mpc_systems.specs.Writing.{HasBoxWidth}
 use Rattle.mpc_tree.specs.declared.nodes.Held.{Held}
 use Rattle.mpc_tree.specs.declared.nodes.Held.TheVariants.{Fails, Holds}
 use Rattle.mpc_tree.specs.declared.nodes.Placed.{Placed}
 use Rattle.mpc_tree.specs.declared.nodes.Placed.TheVariants.{Split, Leaf}
 use Rattle.mpc_tree.specs.CellRuns.{IsRunOf}
-use Rattle.mpc_tree.specs.Cells.{NoneMeetsBefore, IsFirstToMeet, FailsOn, NoneFailsBefore}
+use Rattle.mpc_tree.specs.Cells.{RegionMeets, NoneMeetsBefore, IsFirstToMeet, FailsOn, NoneFailsBefore}
 use Rattle.mpc_tree.specs.LeafCerts.{AreCertsOf, HasItsCerts}
 use Rattle.mpc_tree.specs.NodeRuns.{MeetsFit, HoldsFit, DividesAndFits, EndsAndFits}
 use Rattle.mpc_tree.specs.Trees.{Cell, IsTreeWhere}
@@ -32,6 +34,18 @@ pub record IsReady (qp : Qp) (laws : List Law) (cell : Cell) : Type 0 where
 -- each state with admissible unknowns lies in the region of one of the laws
 pub record RegionsCover (qp : Qp) (laws : List Law) : Type 0 where
   pub covers : (t z : List ℚ) → IsFeasible qp t z → (law : Law) × Contains laws law × IsInRegion qp law t
+
+-- the region of the law with which the search goes on meets the cell
+pub record MeetsNext (qp : Qp) (laws : List Law) (cell : Cell) : Type 0 where
+  pub law : Law
+  pub is : slice_get laws cell.next ≡ Some law
+  pub meets : RegionMeets qp cell.rows law
+
+-- the search for a state of the cell in that region fits
+pub record NextFits (qp : Qp) (borders : List (List RowInt)) (cell : Cell) : Type 0 where
+  pub rows : List RowInt
+  pub is_border : slice_get borders cell.next ≡ Some rows
+  pub fits : RunFits (meet_system qp cell.rows rows)
 
 -- the first law whose region meets the cell, and the runs that find it fit
 pub record IsMeeting (qp : Qp) (laws : List Law) (cell : Cell) (place : ℕ) : Type 0 where

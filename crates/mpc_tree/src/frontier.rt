@@ -113,7 +113,11 @@ fn divided_cell(
 {
     cell_theorems();
     kept.missed = Missed::new(alloc, 0)?;
-    let at = Visit { next, node: 1 };
+    let at = Visit {
+        next,
+        known: false,
+        node: 1,
+    };
     match place_node(alloc, kept, qp, laws, borders, &cell, at) {
         Ok(Placed::Split { place, row, run }) => {
             let row = &borders[place].as_slice()[row];

@@ -93,7 +93,7 @@ fn enter(cell: &mut KeptCell, side: OpenSide) -> Result<usize, NoMemory>
 /// A tree that is watched is given up once it is called off. Its list has no more room than its nodes need.
 ///
 /// `held` counts rows of the next law that hold on the cell since the search was split by them: the
-/// next split is by a later one, so the search ends.
+/// next split is by a later one, so the search ends. Where there are any, the law is known to meet the cell.
 pub fn grown(
     alloc: Global,
     qp: &Qp,
@@ -121,10 +121,9 @@ pub fn grown(
         if is_called_off(&watch) {
             return Err(Stop::GivenUp);
         }
-        let at = Visit {
-            next,
-            node: tree.len() as u64 + 1,
-        };
+        let known = 0 < held;
+        let node = tree.len() as u64 + 1;
+        let at = Visit { next, known, node };
         match place_node(alloc, &mut kept, qp, laws, borders, &cell, at) {
             Ok(Placed::Split { place, row, run }) => {
                 let rows = borders[place].as_slice();

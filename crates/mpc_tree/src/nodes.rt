@@ -9,7 +9,7 @@ ghost use Rattle.mpc_tree.specs.Causes.{IfWide};
 ghost use Rattle.mpc_tree.specs.CellRuns.{IsOpenAt, IsRunOf};
 ghost use Rattle.mpc_tree.specs.Cells.{NoneMeetsBefore};
 ghost use Rattle.mpc_tree.specs.Ends.{IsEndOf};
-ghost use Rattle.mpc_tree.specs.Growth.{RegionsCover, IsFirstMeeting, IsHeld, NamesWideRow, IsPlaced};
+ghost use Rattle.mpc_tree.specs.Growth.{RegionsCover, NextFits, MeetsNext, IsFirstMeeting, IsHeld, NamesWideRow, IsPlaced};
 ghost use Rattle.mpc_tree.specs.LeafCerts.{IsCertOf};
 ghost use Rattle.mpc_tree.specs.Missed.{AreMissed, IsRegion};
 ghost use Rattle.mpc_systems.specs.Systems.{meet_system, hold_system, joint_system};
@@ -28,10 +28,12 @@ use mpc_simplex::{Beginning, Meeting, SimplexError, Workspace};
 use mpc_systems::{cell_theorems, hold_system, joint_system, meet_system};
 use std::alloc::Global;
 
-/// A visit to a node: the place of the law, from 0, with which its search goes on, and the node's number.
+/// A visit to a node: the place of the law, from 0, with which its search goes on, whether this law is known to
+/// meet the cell, and the node's number.
 #[derive(Clone, Copy, Drop)]
 pub struct Visit {
     pub next: usize,
+    pub known: bool,
     pub node: u64,
 }
 
@@ -149,6 +151,16 @@ fn fits_behind(qp: &Qp, cell: &KeptCell, border: &Border) -> bool
     }
 }
 
+/// Whether the law with which the search goes on is known to meet the cell, and it is seen without a run
+/// that the one that would find this fits.
+fn meets_next(qp: &Qp, cell: &KeptCell, borders: &[Border], at: Visit) -> bool
+    requires run { IsRunOf qp.now cell.now.rows.items cell.now.run }
+    requires within { IsTrue at.known → at.next < length borders.now }
+    ensures { IsTrue result → IsTrue at.known × NextFits qp.now borders.now (record { rows = cell.now.rows.items; next = at.next }) }
+{
+    at.known && fits_behind(qp, cell, &borders[at.next])
+}
+
 /// A certificate that the row holds on the cell, or else that it fails at a state of the cell.
 fn hold_end(
     alloc: Global,
@@ -180,7 +192,8 @@ fn hold_end(
 }
 
 /// The place of the first law, from the next one on, whose region meets the cell of the node. A law
-/// that is known to be missed is passed over where its run is seen to fit, so no refusal is lost.
+/// that is known to be missed is passed over where its run is seen to fit, so no refusal is lost; and so
+/// one that is known to be met is found.
 fn first_meeting(
     alloc: Global,
     kept: &mut Search,
@@ -197,6 +210,7 @@ fn first_meeting(
     requires open { IsOpenAt cell.now.run kept.old.work }
     requires missed { AreMissed qp.now borders.now cell.now.rows.items kept.old.missed }
     requires before { NoneMeetsBefore qp.now laws.now cell.now.rows.items at.next }
+    requires known { IsTrue at.known → MeetsNext qp.now laws.now (record { rows = cell.now.rows.items; next = at.next }) }
     ensures open { IsOpenAt cell.now.run kept.new.work }
     ensures missed { OnOk result (AreMissed qp.now borders.now cell.now.rows.items kept.new.missed) }
     ensures first { IfOk result (λ o. IsFirstMeeting qp.now laws.now (record { rows = cell.now.rows.items; next = at.next }) o) }
@@ -204,6 +218,9 @@ fn first_meeting(
     ensures wide { IfErr result (λ e. IfWide e (IsWideAt qp.now laws.now (record { rows = cell.now.rows.items; next = at.next }) at.node)) }
 {
     cell_theorems();
+    if meets_next(qp, cell, borders, at) {
+        return Ok(Some(at.next));
+    }
     for place in at.next..laws.len() {
         let border = &borders[place];
         if kept.missed.knows(place) && fits_behind(qp, cell, border) {
@@ -290,6 +307,7 @@ pub fn place_node(
     requires cover { RegionsCover qp.now laws.now }
     requires missed { AreMissed qp.now borders.now cell.now.rows.items kept.old.missed }
     requires before { NoneMeetsBefore qp.now laws.now cell.now.rows.items at.next }
+    requires known { IsTrue at.known → MeetsNext qp.now laws.now (record { rows = cell.now.rows.items; next = at.next }) }
     ensures missed { OnOk result (AreMissed qp.now borders.now cell.now.rows.items kept.new.missed) }
     ensures placed { IfOk result (λ p. IsPlaced qp.now laws.now borders.now (record { rows = cell.now.rows.items; next = at.next }) p) }
     ensures wide { IfErr result (λ e. IfWide e (IsWideAt qp.now laws.now (record { rows = cell.now.rows.items; next = at.next }) at.node)) }

@@ -7,7 +7,7 @@ use Rattle.mpc_tree.specs.CellRuns.{IsRunOf}
 use Rattle.mpc_tree.specs.Growth.{IsSplitAt, IsLeafAt}
 use Rattle.mpc_tree.specs.WideRuns.{IsWideAt}
 use Rattle.mpc_tree.proofs.CellRuns.{row_fits, narrowed}
-use Rattle.mpc_tree.proofs.Dividing.{place_within, row_within, rows_read, row_read, row_inside, plain_read, grown_at}
+use Rattle.mpc_tree.proofs.Dividing.{place_within, row_within, rows_read, row_read, row_inside, plain_read, known_at, grown_at}
 use Rattle.mpc_tree.proofs.Ending.{smaller_at, smaller_leaf, weights}
 use Rattle.mpc_tree.proofs.Growing.{next_at, last_at, shared_within, top_run, wide_at}
 use Rattle.mpc_tree.proofs.MissedLaws.{missed_longer, missed_side}
@@ -75,6 +75,7 @@ nodes-preserved-in-Ok-Split c =
     let row : c.index-rows-row.result ≡ s.row = row_read c.args.qp.now c.args.laws.now c.args.borders.now c.requires.borders (record { rows = c.nodes.cell.rows.items; next = c.nodes.next }) c.in-Ok-Split.place c.in-Ok-Split.row s c.as_slice-rows.result.now c.index-rows-row.result (rows_read c.args.qp.now c.args.laws.now c.args.borders.now c.requires.borders (record { rows = c.nodes.cell.rows.items; next = c.nodes.next }) c.in-Ok-Split.place c.in-Ok-Split.row s c.index-borders-place.result c.as_slice-rows.result.now c.index-borders-place.is c.as_slice-rows.ensures) c.index-rows-row.is in
     record {
       grown = grown_at c.args.qp.now c.args.laws.now c.args.borders.now c.requires.borders (record { rows = c.nodes.cell.rows.items; next = c.nodes.next }) c.in-Ok-Split.place c.in-Ok-Split.row s c.cell_theorems.ensures (record { rows = c.args.cell.rows.items; next = c.args.next }) c.nodes.tree c.nodes.sides.items c.nodes.held c.nodes.invariant.grown c.in-Ok-Split.run' (rw c.in-Ok-Split.field-0-is at c.in-Ok-Split.ensures.placed).1 c.index-rows-row.result row c.open_split.new.tree c.open_split.new.cell.rows.items c.open_split.new.sides.items c.in_ok-open_split-in-Ok-Split.ensures.tree c.in_ok-open_split-in-Ok-Split.ensures.cell c.in_ok-open_split-in-Ok-Split.ensures.sides;
+      known = λ h. known_at c.args.qp.now c.args.laws.now c.args.borders.now c.requires.borders (record { rows = c.nodes.cell.rows.items; next = c.nodes.next }) c.in-Ok-Split.place c.in-Ok-Split.row s c.cell_theorems.ensures c.index-rows-row.result row c.open_split.new.cell.rows.items c.in_ok-open_split-in-Ok-Split.ensures.cell;
       missed = missed_longer c.args.qp.now c.args.borders.now c.nodes.cell.rows.items c.place_node.new.kept.missed c.in-Ok-Split.ensures.missed (whole_row c.index-rows-row.result) c.open_split.new.cell.rows.items c.in_ok-open_split-in-Ok-Split.ensures.cell;
       run = subst (λ rows. IsRunOf c.args.qp.now rows c.open_split.new.cell.run) (sym c.in_ok-open_split-in-Ok-Split.ensures.cell) (narrowed c.args.qp.now c.nodes.cell.rows.items c.nodes.cell.run c.nodes.invariant.run (whole_row c.index-rows-row.result) c.open_split.new.cell.run c.in_ok-open_split-in-Ok-Split.ensures.run);
     }
@@ -95,6 +96,7 @@ nodes-preserved c =
     let l : IsLeafAt c.args.qp.now c.args.laws.now (record { rows = c.nodes.cell.rows.items; next = c.nodes.next }) c.in-Ok-Leaf.leaf = (rw c.in-Ok-Leaf.field-0-is at c.in-Ok-Leaf.ensures.placed) in
     record {
       grown = next_at c.args.qp.now c.args.laws.now (record { rows = c.args.cell.rows.items; next = c.args.next }) c.args.borders.now c.nodes.tree c.push.new.self (record { rows = c.nodes.cell.rows.items; next = c.nodes.next }) c.nodes.sides.items c.pop.new.self.items c.in-Some.side c.nodes.held c.in-Ok-Leaf.leaf c.enter.new.cell.rows.items c.in_ok-next-in-Some.next c.nodes.invariant.grown l c.in-Some.ensures.items c.in_ok-push-in-Ok-Leaf.ensures.ok c.in_ok-next-in-Some.ensures.cell c.in_ok-next-in-Some.ensures.next;
+      known = λ h. absurd (omega arith);
       missed = missed_side c.args.qp.now c.args.borders.now c.nodes.cell.rows.items c.place_node.new.kept.missed c.in-Ok-Leaf.ensures.missed c.in-Some.side.shared (shared_within c.args.qp.now c.args.laws.now (record { rows = c.args.cell.rows.items; next = c.args.next }) c.args.borders.now c.nodes.tree (record { rows = c.nodes.cell.rows.items; next = c.nodes.next }) c.nodes.sides.items c.pop.new.self.items c.in-Some.side c.nodes.held c.nodes.invariant.grown c.in-Some.ensures.items) c.in-Some.side.row c.enter.new.cell.rows.items c.in_ok-next-in-Some.ensures.cell c.forget.new.self c.forget.ensures;
       run = top_run c.args.qp.now c.args.laws.now (record { rows = c.args.cell.rows.items; next = c.args.next }) c.args.borders.now c.nodes.tree (record { rows = c.nodes.cell.rows.items; next = c.nodes.next }) c.nodes.sides.items c.pop.new.self.items c.in-Some.side c.nodes.held c.nodes.invariant.grown c.in-Some.ensures.items c.enter.new.cell.rows.items c.enter.new.cell.run c.in_ok-next-in-Some.ensures.cell c.in_ok-next-in-Some.ensures.run;
     }

@@ -1,7 +1,7 @@
 use Rattle.std.proofs.Common.{◌≡◌, ◌+◌, ◌<◌, inl, Some, slice_get, arith, refl, length}
-use Rattle.std.proofs.lemmas.Option.{slice_get_read}
+use Rattle.std.proofs.lemmas.Option.{slice_get_read, slice_get_within}
 use Rattle.mpc_tree.proofs.MissedLaws.{missed_now, missed_noted}
-use Rattle.mpc_tree.proofs.NodeLemmas.{law_of, border_of, meets_none, meets_fit, meets_first, meets_wide}
+use Rattle.mpc_tree.proofs.NodeLemmas.{law_of, border_of, meets_none, meets_fit, meets_first, meets_known, meets_wide}
 use Rattle.mpc_tree.proofs.nodes.first_meeting.Goals as goal
 use Rattle.mpc_tree.proofs.nodes.first_meeting.Goals.{After-index-borders-place}
 
@@ -15,6 +15,17 @@ region_meets-requires-clause-plain c =
     let is = is_border (goal.at.region_meets-requires-clause-plain c).After-index-borders-place in
     let law = law_of c.args.qp.now c.args.laws.now c.args.borders.now c.requires.borders c.args.cell.now.rows.items c.loop-place.place c.index-borders-place.result is in
     (border_of c.args.qp.now c.args.laws.now c.args.borders.now c.requires.borders c.args.cell.now.rows.items c.loop-place.place c.index-borders-place.result is law.0 law.1).plain
+
+pub returns-then-meets_next-clause-first : goal.returns-then-meets_next-clause-first
+returns-then-meets_next-clause-first c =
+    let next = c.meets_next.ensures c.if-meets_next.true in
+    meets_known c.args.qp.now c.args.laws.now c.args.borders.now c.requires.borders c.args.cell.now.rows.items c.args.at.next next.1.rows next.1.is_border (c.requires.known next.0) c.requires.before next.1.fits
+
+pub returns-then-meets_next-clause-below : goal.returns-then-meets_next-clause-below
+returns-then-meets_next-clause-below c =
+    let next = c.requires.known (c.meets_next.ensures c.if-meets_next.true).0 in
+    let within = slice_get_within c.args.laws.now c.args.at.next next.law next.is in
+    (omega arith, within)
 
 pub returns-in-Ok-Met-clause-first : goal.returns-in-Ok-Met-clause-first
 returns-in-Ok-Met-clause-first c =
