@@ -35,6 +35,12 @@ use std::alloc::Global;
 /// laws in `bench/online` meet 950.
 const MOST_DIRECTIONS: usize = 4096;
 
+/// So many slots say where a direction may stand: few of the directions that a plant's states meet share one.
+const SLOTS: usize = 4096;
+
+/// 2^64 by the golden ratio, rounded to an odd number: the first bits of its multiples are spread (Knuth, 1973).
+const MIX: u64 = 0x9E37_79B9_7F4A_7C15;
+
 /// What all states of the program share, with what is kept of the elimination of its Hessian, and no direction yet.
 pub fn prepared_with(alloc: Global, qp: &Qp, kept: Option<Kept>) -> Result<Prepared, NoMemory>
     requires { IfSome kept (IsKeptOf qp.now) }
@@ -45,6 +51,8 @@ pub fn prepared_with(alloc: Global, qp: &Qp, kept: Option<Kept>) -> Result<Prepa
     let costs = whole_rows(alloc, &qp.f, 1)?;
     let even = even_rows(alloc, qp);
     let opening = opening_of(alloc, qp, &kept)?;
+    let mut slots = Vec::new(alloc);
+    slots.resize(SLOTS, 0)?;
     Ok(Prepared {
         rows,
         sides,
@@ -54,6 +62,7 @@ pub fn prepared_with(alloc: Global, qp: &Qp, kept: Option<Kept>) -> Result<Prepa
         opening,
         directions: Vec::new(alloc),
         index: Vec::new(alloc),
+        slots,
     })
 }
 
@@ -232,6 +241,29 @@ fn place_by(
     Some(place)
 }
 
+/// The slot of a mask and a row.
+fn slot_of(mask: u64, row: u32) -> usize {
+    let mixed = mask.wrapping_add((row as u64) << 58).wrapping_mul(MIX);
+    (mixed >> 52) as usize
+}
+
+/// Where the direction of this set and this row is kept, if its slot says so.
+fn place_in_slot(
+    directions: &[KeptDirection],
+    slots: &[u32],
+    slot: usize,
+    set: ActiveSet,
+    row: u32,
+) -> Option<usize>
+    ensures { IfSome result (IsKeptAt set row directions.now) }
+{
+    let place = *slots.get(slot)? as usize;
+    if !stands_at(directions, place, set, row) {
+        return None;
+    }
+    Some(place)
+}
+
 /// Gives up all directions where they are too many for one more; where its entry comes in the index then.
 fn room_at(directions: &mut Vec<KeptDirection>, index: &mut Vec<IndexEntry>, at: usize) -> usize
     requires { at ≤ length index.old.items }
@@ -272,7 +304,7 @@ fn keep_direction(
 
 /// The place in which the direction of a step towards the row is kept: where it wasn't yet, it is found first. Beyond a number of
 /// directions those of before are given up.
-pub fn direction_place(
+fn indexed_place(
     alloc: Global,
     qp: &Qp,
     prepared: &mut Prepared,
@@ -296,4 +328,40 @@ pub fn direction_place(
     let found = found_direction(alloc, qp, &prepared.kept, set, row)?;
     let there = keep_direction(&mut prepared.directions, &mut prepared.index, at, found)?;
     Ok(there)
+}
+
+/// Writes a place in a slot.
+fn remember(slots: &mut [u32], slot: usize, place: u32) {
+    if slot < slots.len() {
+        slots[slot] = place;
+    }
+}
+
+/// The same: where its slot says so, the index isn't searched.
+pub fn direction_place(
+    alloc: Global,
+    qp: &Qp,
+    prepared: &mut Prepared,
+    set: ActiveSet,
+    row: u32,
+) -> Result<usize, Stop>
+    requires definite { IsDefinite qp.now.h.rows }
+    requires prepared { IsPreparedFor qp.now prepared.old }
+    requires set_of_rows { IsSetOfRows (height qp.now.g) set }
+    requires independent { IsIndependentSet qp.now set }
+    requires from_one { 1 ≤ row }
+    requires to_last { row ≤ height qp.now.g }
+    ensures prepared { IsPreparedFor qp.now prepared.new }
+    ensures place { IfOk result (IsKeptAt set row prepared.new.directions.items) }
+    ensures memory { IfErr result (λ e. e ≡ no_memory) }
+{
+    let slot = slot_of(set.mask(), row);
+    if let Some(place) = place_in_slot(&prepared.directions, &prepared.slots, slot, set, row) {
+        return Ok(place);
+    }
+    let place = indexed_place(alloc, qp, prepared, set, row)?;
+    if let Ok(short) = u32::try_from(place) {
+        remember(&mut prepared.slots, slot, short);
+    }
+    Ok(place)
 }

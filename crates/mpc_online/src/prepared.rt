@@ -51,7 +51,8 @@ pub struct EvenRows {
 
 /// What the runs at all states of a program share: the rows of its g, w and f in whole numbers, where these are small, and those of g and w
 /// over one denominator; the elimination of its Hessian in the equations of all steps, where it is kept; the first point as forms, where its
-/// numbers are small; and the directions, as they were found, with an index by rising rows and masks.
+/// numbers are small; and the directions, as they were found, with an index by rising rows and masks, and where one may stand, by a slot of
+/// its mask and its row.
 #[derive(Drop)]
 pub struct Prepared {
     pub rows: Vec<Option<Wholes>>,
@@ -62,4 +63,5 @@ pub struct Prepared {
     pub opening: Option<Opening>,
     pub directions: Vec<KeptDirection>,
     pub index: Vec<IndexEntry>,
+    pub slots: Vec<u32>,
 }
