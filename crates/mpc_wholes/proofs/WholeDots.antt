@@ -1,5 +1,5 @@
 -- Dots of fractions that stand over one denominator each, in whole numbers.
-use Rattle.std.proofs.Common.{◌≡◌, ℕ, ◌+◌, ◌*◌, ◌^◌, ◌<◌, ◌≤◌, List, [], ◌∷◌, ◌++◌, below_more, length, get_or, All, ℤ, pos, ◌+ℤ◌, ◌*ℤ◌, unsigned_abs, FitsSigned, to_z, of_z, sym, ◌∙◌, ap, subst, arith, mul-le-mul_right, le_trans, ⊎_elim, ◌/◌}
+use Rattle.std.proofs.Common.{◌≡◌, ℕ, zero, suc, refl, ◌+◌, ◌-◌, ◌*◌, ◌^◌, ◌<◌, ◌≤◌, List, [], ◌∷◌, ◌++◌, below_more, length, get_or, All, ℤ, pos, ◌+ℤ◌, ◌*ℤ◌, unsigned_abs, FitsSigned, to_z, of_z, sym, ◌∙◌, ap, subst, arith, mul-le-mul_right, le_trans, ⊎_elim, ◌/◌}
 use Rattle.std.proofs.Math.Nat.{mul-le-mul_left}
 use Rattle.std.specs.Int.{◌∣◌, w128}
 use lib.Signed.{mag}
@@ -9,11 +9,14 @@ use Rattle.std.proofs.lemmas.List.{get_or_past, get_or_append_left, get_or_at}
 use Rattle.mpc_exact.specs.Gcd.{gcd, lcm, lcm-divided_left, lcm-positive}
 use Rattle.mpc_exact.specs.Rational.{ℚ, frac, frac_self}
 use Rattle.mpc_exact.proofs.Denominator.{over_multiple}
+use Rattle.mpc_exact.proofs.IntRing.{int_reads, by_ring_ℤ}
 use Rattle.mpc_space.specs.Matrix.{RationalMatrix}
 use Rattle.mpc_linear.specs.SumTheorems.{SumTheorems, IsSumSoFar}
 use Rattle.mpc_wholes.specs.declared.numbers.Wholes.{Wholes}
 use Rattle.mpc_wholes.specs.Wholes.{IsOver, AreOver}
 use Rattle.mpc_wholes.specs.Sums.{AddsDot}
+use Rattle.mpc_wholes.specs.Spans.{IsSpanOf}
+use Rattle.mpc_wholes.specs.declared.spans.Span.{Span}
 use Rattle.mpc_wholes.proofs.WholeFits.{abs-add}
 use Rattle.mpc_wholes.proofs.Terms.{next_over, term_fits}
 
@@ -115,6 +118,40 @@ dot_all laws x y count k start total h g xs ys ox oy hx hy =
       value = laws.value (frac start (x.den * y.den)) xs ys k (frac total (x.den * y.den)) over s;
     }
 
+-- ---- numerators that are 0 add nothing
+no_more : (t b : ℤ) → t +ℤ (pos 0 *ℤ b) ≡ t
+no_more t b = by_ring_ℤ (t ∷ b ∷ []) (search int_reads depth 30) (search int_reads depth 30) tt
+
+module _ (laws : SumTheorems) (x y : Wholes) (count : ℕ) (few : count ≤ 6) (start t : ℤ) (room : unsigned_abs start + 6 * (x.most * y.most) < 2 ^ 127) where
+  skip_one : (k : ℕ) → k < count → get_or x.numerators k (pos 0) ≡ pos 0 → unsigned_abs t ≤ unsigned_abs start + k * (x.most * y.most) → DotSoFar x y count start k t → DotSoFar x y count start (k + 1) t
+  skip_one k l nothing size g xs ys ox oy hx hy =
+      let u = get_or x.numerators k (pos 0) in
+      let v = get_or y.numerators k (pos 0) in
+      let same : t +ℤ (u *ℤ v) ≡ t = ap (λ z. t +ℤ (z *ℤ v)) nothing ∙ no_more t v in
+      subst (λ z. IsSumSoFar (frac start (x.den * y.den)) xs ys (k + 1) (frac z (x.den * y.den))) same
+      (sum_more x y (unsigned_abs start) room k (omega (arith, l, few)) (to_z w128 (of_z w128 u) *ℤ to_z w128 (of_z w128 v)) refl t size laws (frac start (x.den * y.den)) xs ys ox oy
+      (subst (λ n. k < n) (sym hx) l) (subst (λ n. k < n) (sym hy) l) (g xs ys ox oy hx hy))
+
+  pub skip : (n k : ℕ) → k + n ≤ count → ((j : ℕ) → k ≤ j → j < k + n → get_or x.numerators j (pos 0) ≡ pos 0) → unsigned_abs t ≤ unsigned_abs start + k * (x.most * y.most) → DotSoFar x y count start k t → DotSoFar x y count start (k + n) t
+  skip zero k l zeros size g = subst (λ m. DotSoFar x y count start m t) (let e : k ≡ k + 0 = omega arith in e) g
+  skip (suc n) k l zeros size g =
+      let more : k * (x.most * y.most) ≤ (k + n) * (x.most * y.most) = mul-le-mul_right (x.most * y.most) (omega arith) in
+      let e : k + n + 1 ≡ k + suc n = omega arith in
+      subst (λ m. DotSoFar x y count start m t) e
+      (skip_one (k + n) (omega (arith, l)) (zeros (k + n) (omega arith) (omega arith)) (omega (arith, more, size)) (skip n k (omega (arith, l)) (λ j h i. zeros j h (omega (arith, i))) size g))
+
+  pub finish : (k : ℕ) → k ≤ count → ((j : ℕ) → k ≤ j → j < count → get_or x.numerators j (pos 0) ≡ pos 0) → unsigned_abs t ≤ unsigned_abs start + k * (x.most * y.most) → DotSoFar x y count start k t → AddsDot x y count start t
+  finish k l zeros size g =
+      let e : k + (count - k) ≡ count = omega (arith, l) in
+      dot_all laws x y count count start t (omega arith)
+      (subst (λ m. DotSoFar x y count start m t) e (skip (count - k) k (omega (arith, l)) (λ j h i. zeros j h (omega (arith, i, l))) size g))
+
+pub begin : SumTheorems → (x y : Wholes) (count : ℕ) → count ≤ 6 → (start : ℤ) → unsigned_abs start + 6 * (x.most * y.most) < 2 ^ 127 → (first : ℕ) → first ≤ count → ((j : ℕ) → j < first → get_or x.numerators j (pos 0) ≡ pos 0) → DotSoFar x y count start first start
+begin laws x y count few start room first l zeros =
+    let e : 0 + first ≡ first = omega arith in
+    subst (λ m. DotSoFar x y count start m start) e
+    (skip laws x y count few start start room first 0 (omega (arith, l)) (λ j h i. zeros j (omega (arith, i))) (omega arith) (λ xs ys ox oy hx hy. laws.none (frac start (x.den * y.den)) xs ys))
+
 -- ---- common denominators, and numerators over them
 pub multiple_of_first : (a b g m : ℕ) → g ≡ gcd a b → m ≡ a / g * b → a ∣ m
 unfolding lcm
@@ -140,3 +177,22 @@ rows_more m den limit i rows next row e size here before j d h = below_more (λ 
 
     new : (z : Wholes) → AreOver (get_or m.rows i []) den limit (get_or next i z)
     new z = subst (AreOver (get_or m.rows i []) den limit) (sym (ap (λ xs. get_or xs i z) e ∙ get_or_at rows row [] z i size)) here
+
+-- ---- one span more
+read_any : (rows : List Wholes) (i : ℕ) (w d : Wholes) → i < length rows → get_or rows i w ≡ get_or rows i d
+read_any [] i w d h = absurd (omega arith)
+read_any (x ∷ rows) zero w d h = refl
+read_any (x ∷ rows) (suc i) w d h = read_any rows i w d (omega arith)
+
+pub spans_more : (rows : List Wholes) (count i : ℕ) (spans next : List Span) (row : Wholes) (span : Span) → i < length rows → row ≡ get_or rows i row → next ≡ spans ++ span ∷ [] → length spans ≡ i → IsSpanOf row.numerators count span
+    → ((j : ℕ) (w : Wholes) (s : Span) → j < i → IsSpanOf (get_or rows j w).numerators count (get_or spans j s)) → (j : ℕ) (w : Wholes) (s : Span) → j < i + 1 → IsSpanOf (get_or rows j w).numerators count (get_or next j s)
+spans_more rows count i spans next row span within is e size here before j w s h = below_more (λ k. (x : Wholes) (z : Span) → IsSpanOf (get_or rows k x).numerators count (get_or next k z)) i old new j h w s
+  where
+    old : (k : ℕ) → k < i → (x : Wholes) (z : Span) → IsSpanOf (get_or rows k x).numerators count (get_or next k z)
+    old k l x z = subst (IsSpanOf (get_or rows k x).numerators count) (sym (ap (λ xs. get_or xs k z) e ∙ get_or_append_left spans (span ∷ []) z k (subst (λ n. k < n) (sym size) l))) (before k x z l)
+
+    new : (x : Wholes) (z : Span) → IsSpanOf (get_or rows i x).numerators count (get_or next i z)
+    new x z =
+        let same : row ≡ get_or rows i x = is ∙ read_any rows i row x within in
+        subst (λ (r : Wholes). IsSpanOf r.numerators count (get_or next i z)) same
+        (subst (IsSpanOf row.numerators count) (sym (ap (λ xs. get_or xs i z) e ∙ get_or_at spans span [] z i size)) here)

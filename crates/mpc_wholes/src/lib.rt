@@ -4,6 +4,7 @@
 mod denominators;
 mod numbers;
 mod numerators;
+mod spans;
 mod sums;
 mod theorems;
 
@@ -13,5 +14,6 @@ pub use numerators::{
     column_over, numerator_over, over_multiple, over_one_denominator, rows_over, short_product,
     wholes_over,
 };
-pub use sums::dot_from;
+pub use spans::{Span, span_of, spans_of};
+pub use sums::{dot_from, dot_within};
 pub use theorems::over_theorems;
