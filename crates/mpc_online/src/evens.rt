@@ -7,6 +7,7 @@ ghost use Rattle.mpc_space.specs.Vector.{coordinate, dot, mat_vec};
 ghost use Rattle.mpc_space.specs.Matrix.{IsRectangular};
 ghost use Rattle.mpc_linear.specs.Dot.{DotFits};
 ghost use Rattle.mpc_wholes.specs.Wholes.{IsOver, AreRowsOver};
+ghost use Rattle.mpc_wholes.specs.Spans.{IsSpanOf, AreSpansOf};
 ghost use Rattle.mpc_online.specs.Widths.{ProductsFit};
 ghost use Rattle.mpc_online.specs.Evens.{AreEvenRows, even_sides, sides_of};
 ghost use Rattle.mpc_online.specs.Shared.{IsPreparedFor};
@@ -15,11 +16,13 @@ ghost use Rattle.mpc_online.specs.Answers.{IfStopWide};
 use crate::prepared::{EvenRows, Prepared};
 use crate::sides::{EvenSides, Sides};
 use crate::solutions::{Stop, products};
-use crate::wholes::{difference, dot_of_numerators, fraction_over, is_above_whole, product};
+use crate::wholes::{
+    difference, dot_in_span, dot_of_numerators, fraction_over, is_above_whole, product,
+};
 use mpc_frac::{Frac, fit_theorems};
 use mpc_linear::Matrix;
 use mpc_rows::Qp;
-use mpc_wholes::{Wholes, common_of, over_theorems, rows_over, wholes_over};
+use mpc_wholes::{Span, Wholes, common_of, over_theorems, rows_over, spans_of, wholes_over};
 use std::alloc::{AllocError, Global};
 
 /// The greatest size of the numbers of the rows, 2^44.
@@ -37,8 +40,16 @@ pub fn even_rows(alloc: Global, qp: &Qp) -> Option<EvenRows>
         return None;
     }
     let rows = rows_over(alloc, &qp.g, den, MOST)?;
+    let row_spans = spans_of(alloc, &rows, qp.g.cols() as usize).ok()?;
     let sides = rows_over(alloc, &qp.w, den, MOST)?;
-    Some(EvenRows { den, rows, sides })
+    let side_spans = spans_of(alloc, &sides, qp.w.cols() as usize).ok()?;
+    Some(EvenRows {
+        den,
+        rows,
+        row_spans,
+        sides,
+        side_spans,
+    })
 }
 
 /// The dots of rows over one denominator with counts.
@@ -46,6 +57,7 @@ fn even_products(
     alloc: Global,
     matrix: &Matrix,
     rows: &[Wholes],
+    spans: &[Span],
     den: u128,
     counts: &Wholes,
     count: usize,
@@ -53,6 +65,7 @@ fn even_products(
     requires some { 0 < den }
     requires den_small { den ≤ 2 ^ 44 }
     requires rows { AreRowsOver matrix.now den (2 ^ 44) rows.now }
+    requires spans { AreSpansOf rows.now count spans.now }
     requires rectangular { IsRectangular matrix.now }
     requires count { count ≡ matrix.now.columns }
     requires few { count ≤ 6 }
@@ -63,7 +76,7 @@ fn even_products(
 {
     let mut numerators = Vec::with_capacity(alloc, rows.len())?;
     for index in 0..rows.len() {
-        numerators.push(dot_of_numerators(&rows[index], counts, count))?;
+        numerators.push(dot_in_span(&rows[index], counts, &spans[index], count))?;
     }
     Ok(EvenSides { numerators, den })
 }
@@ -86,6 +99,7 @@ pub fn right_sides(
                 alloc,
                 &qp.w,
                 &even.sides,
+                &even.side_spans,
                 even.den,
                 &counts,
                 extended_counts.len(),
@@ -119,8 +133,15 @@ pub fn side_at(sides: &Sides, place: usize) -> Frac
 }
 
 /// Whether the dot is above this numerator over the denominator of the row. No number on the way is large.
-pub fn is_above_side(row: &Wholes, numbers: &Wholes, count: usize, numerator: i128) -> bool
+pub fn is_above_side(
+    row: &Wholes,
+    span: &Span,
+    numbers: &Wholes,
+    count: usize,
+    numerator: i128,
+) -> bool
     requires few { count ≤ 6 }
+    requires span { IsSpanOf row.now.numerators count span.now }
     requires row { row.now.most ≤ 2 ^ 44 }
     requires numbers { numbers.now.most ≤ 2 ^ 58 }
     requires numerator { unsigned_abs numerator ≤ 6 * 2 ^ 64 }
@@ -130,7 +151,7 @@ pub fn is_above_side(row: &Wholes, numbers: &Wholes, count: usize, numerator: i1
         → DotFits xs ys × FitsSum (dot xs ys) (neg_ℚ (frac numerator row.now.den)) }
 {
     over_theorems();
-    let level = dot_of_numerators(row, numbers, count);
+    let level = dot_in_span(row, numbers, span, count);
     is_above_whole(level, product(numerator, numbers.den as i128))
 }
 

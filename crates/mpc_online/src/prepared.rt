@@ -4,7 +4,7 @@ use mpc_bordered::Kept;
 use mpc_frac::Frac;
 use mpc_linear::Matrix;
 use mpc_sets::ActiveSet;
-use mpc_wholes::Wholes;
+use mpc_wholes::{Span, Wholes};
 
 /// The direction of a step: how the point moves, also in whole numbers where these are small, and how the multipliers of the members do; and
 /// how the row on its way grows, `None` where a number on the way to this needs more than 128 bits.
@@ -41,12 +41,14 @@ pub struct Opening {
     pub rows: Vec<Option<Wholes>>,
 }
 
-/// The rows of g and of w in whole numbers, which are small, over one denominator.
+/// The rows of g and of w in whole numbers, which are small, over one denominator, with the spans outside of which these are 0.
 #[derive(Drop)]
 pub struct EvenRows {
     pub den: u128,
     pub rows: Vec<Wholes>,
+    pub row_spans: Vec<Span>,
     pub sides: Vec<Wholes>,
+    pub side_spans: Vec<Span>,
 }
 
 /// What the runs at all states of a program share: the rows of its g, w and f in whole numbers, where these are small, and those of g and w

@@ -2,6 +2,7 @@
 
 ghost use Rattle.std.specs.Prelude.{◌≡◌, ◌-◌, ◌^◌, ◌≤◌, ◌↔◌, IfOk, IfSome, IsTrue, MatchResult, length};
 ghost use Rattle.mpc_wholes.specs.Wholes.{AreRowsOver as AreOneScale};
+ghost use Rattle.mpc_wholes.specs.Spans.{AreSpansOf};
 ghost use Rattle.mpc_exact.specs.Rational.{◌-ℚ◌};
 ghost use Rattle.mpc_space.specs.Matrix.{height};
 ghost use Rattle.mpc_online.specs.StateRows.{level, side, IsViolated, IsFirstViolated};
@@ -18,7 +19,7 @@ use crate::sides::{EvenSides, Sides};
 use crate::wholes::{difference_in_wholes, is_above};
 use mpc_frac::{Frac, Wide};
 use mpc_rows::Qp;
-use mpc_wholes::Wholes;
+use mpc_wholes::{Span, Wholes};
 
 /// The greatest size of the numbers of a point that is tested in whole numbers alone, 2^58.
 const MOST: u128 = 0x400_0000_0000_0000;
@@ -182,6 +183,7 @@ fn is_violated(
 fn first_in_wholes(
     qp: &Qp,
     rows: &[Wholes],
+    spans: &[Span],
     sides: &EvenSides,
     numbers: &Wholes,
     count: usize,
@@ -191,11 +193,18 @@ fn first_in_wholes(
     requires count { count ≡ height qp.now.h }
     requires few { count ≤ 6 }
     requires numbers { numbers.now.most ≤ 2 ^ 58 }
+    requires spans { AreSpansOf rows.now qp.now.g.columns spans.now }
     ensures first { IsFirstViolated qp.now (even_sides sides.now) (first_of numbers.now count) result }
     ensures fits { TestsFit qp.now (even_sides sides.now) (first_of numbers.now count) }
 {
     for index in 0..rows.len() {
-        if is_above_side(&rows[index], numbers, count, sides.numerators[index]) {
+        if is_above_side(
+            &rows[index],
+            &spans[index],
+            numbers,
+            count,
+            sides.numerators[index],
+        ) {
             return Some(index as u32 + 1);
         }
     }
@@ -222,7 +231,7 @@ fn first_of_even(qp: &Qp, prepared: &Prepared, sides: &Sides, point: &Point) -> 
     if right.den != even.den || numbers.most > MOST {
         return None;
     }
-    Some(first_in_wholes(qp, &even.rows, right, numbers, *count))
+    Some(first_in_wholes(qp, &even.rows, &even.row_spans, right, numbers, *count))
 }
 
 /// The first row that the point doesn't meet, if there is one.

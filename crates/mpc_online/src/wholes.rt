@@ -7,12 +7,14 @@ ghost use Rattle.mpc_space.specs.Vector.{dot, mat_vec};
 ghost use Rattle.mpc_space.specs.Matrix.{height, IsRectangular};
 ghost use Rattle.mpc_linear.specs.Dot.{DotFits};
 ghost use Rattle.mpc_wholes.specs.Wholes.{IsDenominator, IsOver};
+ghost use Rattle.mpc_wholes.specs.Spans.{IsSpanOf};
 ghost use Rattle.mpc_online.specs.Wholes.{AreRowsOver};
 
 use mpc_frac::Frac;
 use mpc_linear::Matrix;
 use mpc_wholes::{
-    Wholes, denominator, dot_from, over_multiple, over_one_denominator, over_theorems,
+    Span, Wholes, denominator, dot_from, dot_within, over_multiple, over_one_denominator,
+    over_theorems,
 };
 use std::alloc::{AllocError, Global};
 
@@ -62,6 +64,20 @@ pub fn dot_of_numerators(row: &Wholes, numbers: &Wholes, count: usize) -> i128
         → DotFits xs ys }
 {
     dot_from(0, row, numbers, count)
+}
+
+/// The same, where the row's numerators outside of a span are 0.
+pub fn dot_in_span(row: &Wholes, numbers: &Wholes, span: &Span, count: usize) -> i128
+    requires few { count ≤ 6 }
+    requires small { row.now.most * numbers.now.most ≤ 2 ^ 124 }
+    requires span { IsSpanOf row.now.numerators count span.now }
+    ensures size { unsigned_abs result ≤ 6 * (row.now.most * numbers.now.most) }
+    ensures value { (xs ys : List ℚ) → IsOver xs row.now → IsOver ys numbers.now → length xs ≡ count → length ys ≡ count
+        → dot xs ys ≡ frac result (row.now.den * numbers.now.den) }
+    ensures fits { (xs ys : List ℚ) → IsOver xs row.now → IsOver ys numbers.now → length xs ≡ count → length ys ≡ count
+        → DotFits xs ys }
+{
+    dot_within(0, row, numbers, span, count)
 }
 
 /// The product, which fits.
