@@ -290,7 +290,8 @@ fn joint_cert(alloc: Global, qp: &Qp, cell: &[Row], node: u64) -> Result<Cert, T
     }
 }
 
-/// What stands at the node of the cell.
+/// What stands at the node of the cell. It is most of the code of its two callers, so the program has it once.
+#[inline(never)]
 pub fn place_node(
     alloc: Global,
     kept: &mut Search,
