@@ -1,65 +1,84 @@
--- With small numbers in four unknowns no operation of the run is wide.
-use Rattle.std.proofs.Common.{◌≡◌, ℕ, ◌+◌, ◌*◌, ◌^◌, ◌≤◌, List, ◌++◌, length, drop, ℤ, pos, unsigned_abs, sym, ◌∙◌, subst, arith, le_trans, length-append, mul-le-mul_right}
+-- With small numbers in one to four unknowns no operation of the run is wide.
+use Rattle.std.proofs.Common.{◌≡◌, ℕ, zero, suc, ◌+◌, ◌-◌, ◌*◌, ◌^◌, ◌≤◌, List, ◌++◌, drop, ℤ, unsigned_abs, ap, subst, arith, le_trans, length-append, mul-le-mul_right}
 use Rattle.std.proofs.lemmas.Nat.{mul-le}
-use Rattle.mpc_rows.specs.declared.systems.Row.{Row}
 use Rattle.mpc_rows.specs.LinearSystem.{LinearSystem, height}
 use Rattle.mpc_rows.specs.Run.{count, position, steps}
 use Rattle.mpc_rows.specs.RunWidth.{PositionFits, RunFits}
-use Rattle.mpc_scaled.specs.Scaled.{scale_at, IsSmall, IsWholeSystem}
+use Rattle.mpc_scaled.specs.Scaled.{scale_at, IsWholeSystem}
 use Rattle.mpc_whole.specs.PositionTheorems.{PositionTheorems}
 use Rattle.mpc_whole.specs.Whole.{HasBounds}
+use Rattle.mpc_minors.specs.Sizes.{most_determinant, LeaveRoom}
 use Rattle.mpc_minors.proofs.Seats.{HasSeats, seats_at}
-use Rattle.mpc_minors.proofs.Rows.{four_wide}
 use Rattle.mpc_minors.proofs.Forms.{whole_den, form_list, is_form, list_small, den_small}
-use Rattle.mpc_minors.proofs.Appended.{of_both, of_later, both_whole}
+use Rattle.mpc_minors.proofs.Appended.{wide, HasSizes, both_whole, both_sizes}
 
 module _ (t : PositionTheorems) where
-  module _ (rows : List Row) (k : List ℕ) (a b : List ℤ) (w : IsWholeSystem (four_wide rows) k a b) (entry side scale : ℕ) (one : 1 ≤ entry) (entries : IsSmall entry a) (sides : IsSmall side b) (some_side : 1 ≤ side)
-      (scales : (x : ℕ) → scale_at k x ≤ scale) (room : (4 * (entry * (6 * (entry * (entry * entry))))) * scale ≤ 2 ^ 62) (side_room : (4 + length rows) * side ≤ 2 ^ 62) where
+  module _ (s : LinearSystem) (k : List ℕ) (a b : List ℤ) (w : IsWholeSystem s k a b) (entry side scale : ℕ) (one : 1 ≤ entry) (some_side : 1 ≤ side)
+      (sizes : HasSizes entry side scale k a b) (room : LeaveRoom s.width (count s) entry side scale) where
     most : ℕ
-    most = 6 * (entry * (entry * entry))
+    most = most_determinant (s.width - 1) entry
 
-    less : most ≤ 4 * (entry * most)
-    less = let e = mul-le-mul_right most one in omega arith
-
-    bounds : HasBounds (four_wide rows) k a b most
+    -- a determinant is a sum of so many products of an entry and a minor
+    by_minors : most_determinant s.width entry ≡ s.width * (entry * most)
     unfolding most
+    by_minors = by s.width room.some
+      where
+        by : (n : ℕ) → 1 ≤ n → most_determinant n entry ≡ n * (entry * most_determinant (n - 1) entry)
+        by zero h = absurd (omega arith)
+        by (suc n) h = ap (λ m. suc n * (entry * most_determinant m entry)) (omega arith)
+
+    less : most ≤ most_determinant s.width entry
+    less =
+        let e = mul-le-mul_right most one in
+        let f = mul-le-mul_right (entry * most) room.some in
+        let g = by_minors in
+        omega arith
+
+    bounds : HasBounds s k a b most
     bounds = record {
       most_entry = entry;
       most_side = side;
       most_scale = scale;
       bounds = record {
-        entries = entries;
-        sides = record { sides = sides; some_side = some_side; side_room = side_room };
-        scales = scales;
-        room = room;
-        top = le_trans (mul-le-mul_right scale less) room;
+        entries = sizes.entries;
+        sides = record { sides = sizes.sides; some_side = some_side; side_room = room.sides };
+        scales = sizes.scales;
+        room = subst (λ n. n * scale ≤ 2 ^ 62) by_minors room.determinants;
+        top = le_trans (mul-le-mul_right scale less) room.determinants;
       };
     }
 
-    fits_at : (q : ℕ) → q ≤ steps (four_wide rows) → HasSeats (four_wide rows) (position (four_wide rows) q) → PositionFits (four_wide rows) (position (four_wide rows) q)
+    fits_at : (q : ℕ) → q ≤ steps s → HasSeats s (position s q) → PositionFits s (position s q)
     unfolding most
     fits_at q h o =
-        let d = unsigned_abs (whole_den rows k a b w q o) in
-        let v = form_list rows k a b w q o in
-        t.narrow_fits (four_wide rows) k a b w most bounds q h o.seats d v (is_form rows k a b w q o)
-        (t.narrow (four_wide rows) k a b most bounds (count (four_wide rows)) o.seats d v (list_small rows k a b w q o entry one entries)
-        (λ x l. le_trans (mul-le d (scale_at k x) (4 * (entry * (6 * (entry * (entry * entry))))) scale (den_small rows k a b w q o entry one entries) (scales x)) room))
+        let d = unsigned_abs (whole_den s room.some room.few k a b w q o) in
+        let v = form_list s room.some room.few k a b w q o in
+        t.narrow_fits s k a b w most bounds q h o.seats d v (is_form s room.some room.few k a b w q o)
+        (t.narrow s k a b most bounds (count s) o.seats d v (list_small s room.some room.few k a b w q o entry one sizes.entries)
+        (λ x l. le_trans (mul-le d (scale_at k x) (most_determinant s.width entry) scale (den_small s room.some room.few k a b w q o entry one sizes.entries) (sizes.scales x)) room.determinants))
 
-    pub small_fits : RunFits (four_wide rows)
-    small_fits = record { fits = λ q h. fits_at q h (seats_at (four_wide rows) q) }
+    pub small_fits : RunFits s
+    small_fits = record { fits = λ q h. fits_at q h (seats_at s q) }
 
   -- the numbers of both systems, with bounds for both
-  module _ (s o : LinearSystem) (k k' : List ℕ) (a a' b b' : List ℤ) (w : IsWholeSystem s k a b) (v : IsWholeSystem o k' a' b') (same : o.width ≡ s.width) (four : s.width ≡ 4) (entry side scale : ℕ) (one : 1 ≤ entry) (some_side : 1 ≤ side)
-      (entries : IsSmall entry a) (entries' : IsSmall entry a') (sides : IsSmall side b) (sides' : IsSmall side b') (scales : (x : ℕ) → scale_at k x ≤ scale) (scales' : (x : ℕ) → scale_at k' x ≤ scale)
-      (room : (4 * (entry * (6 * (entry * (entry * entry))))) * scale ≤ 2 ^ 62) (side_room : (4 + (height s + height o)) * side ≤ 2 ^ 62) where
-    pub both_fit : RunFits (record { width = s.width; rows = s.rows ++ o.rows })
+  module _ (s o : LinearSystem) (k k' : List ℕ) (a a' b b' : List ℤ) (w : IsWholeSystem s k a b) (v : IsWholeSystem o k' a' b') (same : o.width ≡ s.width) (entry side scale : ℕ) (one : 1 ≤ entry) (some_side : 1 ≤ side)
+      (sizes : HasSizes entry side scale k a b) (sizes' : HasSizes entry side scale k' a' b')
+      (variables : ℕ) (within : s.width + (height s + height o) ≤ variables) (room : LeaveRoom s.width variables entry side scale) where
+    abbrev both : LinearSystem
+    both = wide s.width (s.rows ++ o.rows)
+
+    room_for_both : LeaveRoom s.width (count both) entry side scale
+    room_for_both =
+        let e = length-append s.rows o.rows in
+        record {
+          some = room.some;
+          few = room.few;
+          determinants = room.determinants;
+          sides = le_trans (mul-le-mul_right side (omega arith)) room.sides;
+        }
+
+    pub both_fit : RunFits both
     both_fit =
-        subst (λ n. RunFits (record { width = n; rows = s.rows ++ o.rows })) (sym four)
-        (small_fits (s.rows ++ o.rows) (k ++ drop 4 k') (a ++ a') (b ++ b')
-        (both_whole s.rows o.rows k k' a a' b b' (subst (λ n. IsWholeSystem (record { width = n; rows = s.rows }) k a b) four w) (subst (λ n. IsWholeSystem (record { width = n; rows = o.rows }) k' a' b') (same ∙ four) v))
-        entry side scale one
-        (record { each = of_both (λ z. unsigned_abs z ≤ entry) (pos 0) a a' entries.each entries'.each })
-        (record { each = of_both (λ z. unsigned_abs z ≤ side) (pos 0) b b' sides.each sides'.each })
-        some_side (of_both (λ n. n ≤ scale) 0 k (drop 4 k') scales (of_later (λ n. n ≤ scale) 0 4 k' scales')) room
-        (subst (λ n. (4 + n) * side ≤ 2 ^ 62) (sym (length-append s.rows o.rows)) side_room))
+        small_fits both (k ++ drop s.width k') (a ++ a') (b ++ b')
+        (both_whole s.width s.rows o.rows k k' a a' b b' w (subst (λ n. IsWholeSystem (wide n o.rows) k' a' b') same v))
+        entry side scale one some_side (both_sizes entry side scale s.width k k' a a' b b' sizes sizes') room_for_both

@@ -1,6 +1,14 @@
 pub mod Minors
+pub mod Padded
+pub mod Sizes
+pub mod Cells
 pub mod Seats
 pub mod Rows
 pub mod Forms
 pub mod Appended
 pub mod Fits
+pub mod Broken
+pub mod SmallLists
+pub mod LineSums
+pub mod LineNumbers
+pub mod LineWeights

@@ -1,5 +1,5 @@
 -- The determinant of four rows of four numbers, and its minors of three rows.
-use Rattle.std.proofs.Common.{◌≡◌, ◌≢◌, ℕ, zero, suc, ◌+◌, ◌*◌, ◌%◌, ◌<◌, ◌≤◌, cond, eqb, ltb, List, [], ◌∷◌, map, ℤ, pos, unsigned_abs, refl, sym, ◌∙◌, ap, subst, arith, le_trans, le_refl, true, false, ltb-true, mul-add, mul-pos}
+use Rattle.std.proofs.Common.{◌≡◌, ◌≢◌, ℕ, zero, suc, ◌+◌, ◌*◌, ◌%◌, ◌<◌, cond, eqb, ltb, List, [], ◌∷◌, map, ℤ, pos, refl, sym, ◌∙◌, ap, subst, arith, true, ltb-true, mul-pos}
 use Rattle.mpc_exact.specs.Rational.{ℚ, int, ◌<ℚ◌, ◌+ℚ◌, ◌*ℚ◌, neg_ℚ}
 use Rattle.mpc_exact.proofs.Ring.{Ring, Expr, var, con, ◌⊕◌, ◌⊖◌, ◌⊗◌, ⊝◌, eval, get, ring, zero-mul}
 use Rattle.mpc_exact.proofs.IntRing.{int_ring}
@@ -7,7 +7,6 @@ use Rattle.mpc_exact.proofs.Rational.{rational_ring, int-add, int-mul}
 use Rattle.mpc_exact.proofs.School.{int-neg}
 use Rattle.mpc_exact.proofs.RationalOrder.{positive_int, <ℚ_irrefl}
 use Rattle.mpc_space.specs.Total.{unit}
-use Rattle.mpc_runs.proofs.WholeSums.{product_at_most, abs-sum, abs-negated}
 
 -- ---- as expressions: the numbers of row i and column j of a table
 abbrev pub cell : ℕ → ℕ → ℕ → Expr
@@ -84,7 +83,7 @@ module _ (R : Ring) where
     unfolding both dot_of
     products = ring R both (determinant (cell 0) ⊗ determinant (cell 16)) (determinant dot_of) tt
 
--- ---- whole numbers: as fractions, and their sizes
+-- ---- whole numbers as fractions
 int-get : (xs : List ℤ) (i : ℕ) → int (get int_ring xs i) ≡ get rational_ring (map int xs) i
 int-get [] i = refl
 int-get (x ∷ xs) zero = refl
@@ -96,59 +95,6 @@ int-eval xs (con c) = refl
 int-eval xs (a ⊕ b) = int-add (eval int_ring xs a) (eval int_ring xs b) ∙ (λ t. int-eval xs a t +ℚ int-eval xs b t)
 int-eval xs (a ⊗ b) = int-mul (eval int_ring xs a) (eval int_ring xs b) ∙ (λ t. int-eval xs a t *ℚ int-eval xs b t)
 int-eval xs (⊝ a) = int-neg (eval int_ring xs a) ∙ ap neg_ℚ (int-eval xs a)
-
-abbrev size_of : ℕ → Expr → ℕ
-size_of most (var i) = most
-size_of most (con c) = unsigned_abs c
-size_of most (a ⊕ b) = size_of most a + size_of most b
-size_of most (a ⊗ b) = size_of most a * size_of most b
-size_of most (⊝ a) = size_of most a
-
-eval-size : (most : ℕ) (xs : List ℤ) → ((i : ℕ) → unsigned_abs (get int_ring xs i) ≤ most) → (e : Expr) → unsigned_abs (eval int_ring xs e) ≤ size_of most e
-eval-size most xs h (var i) = h i
-eval-size most xs h (con c) = le_refl (unsigned_abs c)
-eval-size most xs h (a ⊕ b) =
-    let l = eval-size most xs h a in
-    let r = eval-size most xs h b in
-    le_trans (abs-sum (eval int_ring xs a) (eval int_ring xs b)) (omega arith)
-eval-size most xs h (a ⊗ b) = product_at_most (eval int_ring xs a) (eval int_ring xs b) (size_of most a) (size_of most b) (eval-size most xs h a) (eval-size most xs h b)
-eval-size most xs h (⊝ a) = subst (λ n. n ≤ size_of most a) (sym (abs-negated (eval int_ring xs a))) (eval-size most xs h a)
-
-signed-size : (most n : ℕ) (e : Expr) → size_of most (signed n e) ≡ size_of most e
-signed-size most n e = elim (eqb (n % 2) 0) as (λ b. size_of most (cond b e (⊝ e)) ≡ size_of most e) [ true ↦ refl | false ↦ refl ]
-
-abbrev AreSmall : ℕ → List ℤ → Type 0
-AreSmall most [] = Unit
-AreSmall most (x ∷ xs) = (unsigned_abs x ≤ most) × AreSmall most xs
-
-get-small : (most : ℕ) (xs : List ℤ) → AreSmall most xs → (i : ℕ) → unsigned_abs (get int_ring xs i) ≤ most
-get-small most [] h i = omega arith
-get-small most (x ∷ xs) h zero = h.0
-get-small most (x ∷ xs) h (suc i) = get-small most xs h.1 i
-
-module _ (m : ℕ → ℕ → ℤ) (most : ℕ) (h : (i j : ℕ) → unsigned_abs (m i j) ≤ most) where
-  table_small : (i : ℕ) → unsigned_abs (get int_ring (table m []) i) ≤ most
-  table_small = get-small most (table m []) (h 0 0, (h 0 1, (h 0 2, (h 0 3, (h 1 0, (h 1 1, (h 1 2, (h 1 3, (h 2 0, (h 2 1, (h 2 2, (h 2 3, (h 3 0, (h 3 1, (h 3 2, (h 3 3, tt))))))))))))))))
-
-  cube : ℕ
-  cube = most * (most * most)
-
-  minor-size : size_of most (minor (cell 0) 0 0 0 0 0 0) ≡ 6 * cube
-  unfolding cube
-  minor-size = let c : most * (most * most + most * most) ≡ most * (most * most) + most * (most * most) = mul-add most (most * most) (most * most) in omega arith
-
-  pub cofactor-size : (i j : ℕ) → unsigned_abs (cofactor_at int_ring m i j) ≤ 6 * (most * (most * most))
-  unfolding cube
-  cofactor-size i j =
-      let a = eval-size most (table m []) table_small (cofactor (cell 0) i j) in
-      let b = signed-size most (i + j) (minor (cell 0) (but i 0) (but i 1) (but i 2) (but j 0) (but j 1) (but j 2)) in
-      subst (λ n. unsigned_abs (cofactor_at int_ring m i j) ≤ n) (b ∙ minor-size) a
-
-  pub determinant-size : unsigned_abs (determinant_of int_ring m) ≤ 4 * (most * (6 * (most * (most * most))))
-  unfolding cube
-  determinant-size =
-      let c = ap (λ u. most * u) minor-size in
-      le_trans (eval-size most (table m []) table_small (determinant (cell 0))) (omega arith)
 
 -- ---- dots that are 0, but one with each of four columns
 module _ (scale : ℕ → ℚ) where

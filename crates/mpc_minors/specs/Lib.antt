@@ -1,0 +1,4 @@
+pub mod Sizes
+pub mod SmallRows
+pub mod Lines
+pub mod LineMinors
