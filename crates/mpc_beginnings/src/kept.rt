@@ -1,11 +1,12 @@
 //! Runs in whole numbers that are kept where they end.
 
-ghost use Rattle.std.specs.Prelude.{◌≡◌, ℕ, ◌*◌, ◌<◌, ◌≤◌, ◌^◌, [], ◌∷◌, IsTrue, IfSome, IfOk, None, length, true, false};
+ghost use Rattle.std.specs.Prelude.{◌≡◌, ℕ, ◌*◌, ◌<◌, ◌≤◌, ◌^◌, [], ◌∷◌, Contains, IsTrue, IfSome, IfOk, None, length, true, false};
 ghost use Rattle.mpc_space.specs.Vector.{zeros};
 ghost use Rattle.mpc_rows.specs.LinearSystem.{LinearSystem, height, row_at};
 ghost use Rattle.mpc_rows.specs.Run.{count, has_point, is_refuted, turn, last_position};
 ghost use Rattle.mpc_rows.specs.RunWidth.{RunFits};
-ghost use Rattle.mpc_rows.specs.LawRows.{broken_row};
+ghost use Rattle.mpc_linear.specs.declared.integers.RowInt.{RowInt};
+ghost use Rattle.mpc_rows.specs.LawRows.{whole_row, broken_row};
 ghost use Rattle.mpc_rows.specs.SetRuns.{turned};
 ghost use Rattle.mpc_whole.specs.Lists.{AreListsOf, of_short};
 ghost use Rattle.mpc_runs.specs.RunEnd.{IsEnd, IsMultipliers, IsValues, EndsRefuted};
@@ -14,7 +15,7 @@ ghost use Rattle.mpc_scaled.specs.Scaled.{whole_cell, IsSmall};
 ghost use Rattle.mpc_whole.specs.Underway.{turn_of, HasEnded};
 ghost use Rattle.mpc_whole.specs.Judged.{most_variables};
 ghost use Rattle.mpc_beginnings.specs.Beginnings.{lengthened};
-ghost use Rattle.mpc_beginnings.specs.Broken.{IsBroken, IsBrokenEnd};
+ghost use Rattle.mpc_beginnings.specs.Broken.{IsRefutedEnd, IsBroken, IsBrokenEnd};
 ghost use Rattle.mpc_beginnings.specs.Limit.{IsLimit};
 ghost use Rattle.mpc_beginnings.specs.Meetings.{IsMeeting, IsMeetingEnd};
 ghost use Rattle.mpc_beginnings.specs.RunLists.{lists_of, weight_of, HaveShortValues};
@@ -457,6 +458,14 @@ fn is_point(end: Ending) -> bool
     }
 }
 
+/// The variable whose row refutes, where the run ends without a point.
+fn refuting_side(end: Ending) -> Option<usize> {
+    match end {
+        Ending::Point => None,
+        Ending::Refuted(side) => Some(side),
+    }
+}
+
 /// What is needed only during a run: a row, with numbers of 64 bits and with those of 128.
 #[derive(Drop)]
 struct Rows {
@@ -472,6 +481,8 @@ pub struct Workspace {
     system: Option<WholeSystem>,
     /// Where the run of the longer system stands.
     lists: KeptLists,
+    /// The variable whose row showed last that a longer system has no point.
+    refuting: Option<usize>,
 }
 
 impl Workspace {
@@ -484,7 +495,26 @@ impl Workspace {
             },
             system: None,
             lists: no_lists(alloc),
+            refuting: None,
         }
+    }
+
+    /// The row at this place, from 0, among those on which the last meeting that was missed hangs: one for each column of
+    /// its last position, then the one that refutes there. Nothing where an unknown stands in the column. No clause
+    /// says so: whoever takes these rows tests them.
+    pub fn bearing_row(&self, place: usize) -> Option<usize> {
+        let side = self.refuting?;
+        let columns = if self.lists.is_wide {
+            self.lists.wide.nonbasic.as_slice()
+        } else {
+            self.lists.short.nonbasic.as_slice()
+        };
+        let variable = if place < columns.len() {
+            columns[place]
+        } else {
+            side
+        };
+        variable.checked_sub(columns.len())
     }
 }
 
@@ -907,7 +937,31 @@ impl KeptRun {
         let numbers = numbers_of(longer);
         let first = self.system.height();
         match self.run_longer(&mut work.lists, &mut work.rows, longer, &numbers, false)? {
-            Some(found) => Ok(Some(meeting_of(longer, &numbers, &work.lists, found, first))),
+            Some(found) => {
+                work.refuting = refuting_side(found.1);
+                Ok(Some(meeting_of(longer, &numbers, &work.lists, found, first)))
+            }
+            None => Ok(None),
+        }
+    }
+
+    /// The multipliers at the end of the run of a system with further rows behind this one's, where it ends refuted.
+    fn longer_multipliers(
+        &self,
+        alloc: Global,
+        work: &mut Workspace,
+        longer: &WholeSystem,
+    ) -> Result<Option<Multipliers>, AllocError>
+        requires { IsLonger self.now longer.now }
+        ensures { IfOk result (λ o. IfSome o (IsRefutedEnd longer.now)) }
+    {
+        let numbers = numbers_of(longer);
+        match self.run_longer(&mut work.lists, &mut work.rows, longer, &numbers, false)? {
+            Some((place, Ending::Refuted(side))) => {
+                let wide = &mut work.rows.wide;
+                multipliers_of(alloc, wide, longer, &numbers, &work.lists, place, side)
+            }
+            Some((_, Ending::Point)) => Ok(None),
             None => Ok(None),
         }
     }
@@ -1016,6 +1070,24 @@ impl KeptRun {
         self.meeting_longer(work, longer)
     }
 
+    /// The multipliers at the end of the run of the system with these rows behind its own, where it ends refuted and the
+    /// system given is this one. It becomes the longer one.
+    fn multipliers_with(
+        &self,
+        alloc: Global,
+        work: &mut Workspace,
+        longer: &mut WholeSystem,
+        rows: &WholeSystem,
+    ) -> Result<Option<Multipliers>, AllocError>
+        requires same { longer.old ≡ self.now }
+        requires rows { rows.now.width ≡ self.now.width }
+        ensures longer { IsLonger self.now longer.new }
+        ensures end { IfOk result (λ o. IfSome o (IsRefutedEnd (lengthened self.now rows.now.rows))) }
+    {
+        longer.append(rows)?;
+        self.longer_multipliers(alloc, work, longer)
+    }
+
     /// Whether the run of the system with its row at the index, from 0, the other way round behind its own ends with
     /// a point, where the system given is this one. It may become the longer one.
     fn meets_with_turned(
@@ -1080,11 +1152,33 @@ impl KeptRun {
         meeting
     }
 
+    /// The multipliers at the end of the run of the system with these rows behind its own, from where this one ends on or
+    /// anew, in a workspace that is open for this run and stays so. `None` where that run ends with a point or whole numbers
+    /// don't serve for it, and else no number that it forms is wide.
+    pub fn refute(
+        &self,
+        alloc: Global,
+        work: &mut Workspace,
+        rows: &WholeSystem,
+    ) -> Result<Option<Multipliers>, AllocError>
+        requires width { rows.now.width ≡ self.now.width }
+        requires open { IsOpenFor self.now work.old }
+        ensures open { IsOpenFor self.now work.new }
+        ensures end { IfOk result (λ o. IfSome o (EndsRefuted (lengthened self.now rows.now.rows))) }
+        ensures fits { IfOk result (λ o. IfSome o (λ _. RunFits (lengthened self.now rows.now.rows))) }
+    {
+        let mut system = self.opened(alloc, work)?;
+        let multipliers = self.multipliers_with(alloc, work, &mut system, rows);
+        self.close(work, system);
+        multipliers
+    }
+
     /// Whether the sizes of the numbers show that the run of the system with these rows behind its own forms no number
-    /// that is wide, without the run.
+    /// that is wide, nor that with the strict row alone that is met where one of them fails. No run is made.
     pub fn fits_with(&self, rows: &WholeSystem) -> bool
         requires { rows.now.width ≡ self.now.width }
-        ensures { IsTrue result → RunFits (lengthened self.now rows.now.rows) }
+        ensures all { IsTrue result → RunFits (lengthened self.now rows.now.rows) }
+        ensures broken { IsTrue result → (row : RowInt) → Contains rows.now.rows (whole_row row) → RunFits (lengthened self.now (broken_row row ∷ [])) }
     {
         always_fits(&self.system, rows)
     }

@@ -1,8 +1,9 @@
 //! Runs that are kept where they end, for systems with further rows.
 
-ghost use Rattle.std.specs.Prelude.{◌≡◌, ◌<◌, ◌↔◌, ◌∷◌, [], IsTrue, IfOk, IfSome, length};
+ghost use Rattle.std.specs.Prelude.{◌≡◌, ◌<◌, ◌↔◌, ◌∷◌, [], Contains, IsTrue, IfOk, IfSome, length};
+ghost use Rattle.mpc_linear.specs.declared.integers.RowInt.{RowInt};
 ghost use Rattle.mpc_rows.specs.LinearSystem.{IsPairPoint, height, row_at};
-ghost use Rattle.mpc_rows.specs.LawRows.{broken_row};
+ghost use Rattle.mpc_rows.specs.LawRows.{whole_row, broken_row};
 ghost use Rattle.mpc_rows.specs.SetRuns.{turned};
 ghost use Rattle.mpc_rows.specs.Refutation.{Refutes};
 ghost use Rattle.mpc_rows.specs.RunWidth.{RunFits};
@@ -214,11 +215,35 @@ impl Beginning {
         Ok(found)
     }
 
+    /// The multipliers that refute the system with these rows behind its own, in a workspace that is open for this run
+    /// and stays so. Nothing where that system has a point, or whole numbers don't serve for its run.
+    pub fn refute(
+        &self,
+        alloc: Global,
+        work: &mut Workspace,
+        rows: &WholeSystem,
+    ) -> Result<Option<Multipliers>, NoMemory>
+        requires width { rows.now.width ≡ self.now.width }
+        requires open { IsOpenFor self.now work.old }
+        ensures open { IsOpenFor self.now work.new }
+        ensures refuted { IfOk result (λ o. IfSome o (Refutes (lengthened self.now rows.now.rows))) }
+        ensures no_point { IfOk result (λ o. IfSome o (λ _. ¬ HasPoint (lengthened self.now rows.now.rows))) }
+        ensures end { IfOk result (λ o. IfSome o (EndsRefuted (lengthened self.now rows.now.rows))) }
+        ensures fits { IfOk result (λ o. IfSome o (λ _. RunFits (lengthened self.now rows.now.rows))) }
+    {
+        system_theorems();
+        rows.has_width();
+        let multipliers = self.run.refute(alloc, work, rows)?;
+        Ok(multipliers)
+    }
+
     /// Whether the sizes of the system's numbers and of these rows' show that no number of the run of the
-    /// system with the rows behind its own is too wide. No run is made.
+    /// system with the rows behind its own is too wide, nor of that with the strict row alone that is met
+    /// where one of them fails. No run is made.
     pub fn fits_with(&self, rows: &WholeSystem) -> bool
         requires { rows.now.width ≡ self.now.width }
-        ensures { IsTrue result → RunFits (lengthened self.now rows.now.rows) }
+        ensures all { IsTrue result → RunFits (lengthened self.now rows.now.rows) }
+        ensures broken { IsTrue result → (row : RowInt) → Contains rows.now.rows (whole_row row) → RunFits (lengthened self.now (broken_row row ∷ [])) }
     {
         self.run.fits_with(rows)
     }
