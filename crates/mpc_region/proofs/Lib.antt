@@ -22,3 +22,7 @@ pub mod SweptFits
 pub mod SweptEntries
 pub mod SweptForms
 pub mod SweptLawRows
+pub mod TableLines
+pub mod TableRows
+pub mod RefutedLaws
+pub mod SmallRegions

@@ -64,3 +64,11 @@ module _ (points : RegionTheorems) (single : LawTheorems) (qp : Qp) (s : List �
     (grows, record { law = law; of_set = of_set; is_law = is_law; holds = λ r. not_both yes (answer.1 ((points.has_region qp law is_law rows are).0 r)) e }),
     (reach_fits, record { law = law; of_set = of_set; is_law = is_law; holds = all_fit }),
   )
+
+-- by the rows that show that the region is empty
+module _ (qp : Qp) (s : List ℕ) (law : Law) (of_set : law.set ≡ s) (is_law : IsLaw qp law) (grows : CanGrow qp s) (reach_fits : ReachFits qp s) where
+  pub right_refuted : ¬ HasRegion qp law → LawRowsFit qp law (height qp.g) → RegionFits qp law → IsRight qp s Hollow
+  right_refuted none rows_fit region_fits = (
+    (grows, record { law = law; of_set = of_set; is_law = is_law; holds = none }),
+    (reach_fits, record { law = law; of_set = of_set; is_law = is_law; holds = record { rows = rows_fit; region = region_fits } }),
+  )

@@ -163,7 +163,7 @@ module _ (reduced : RowIsReduced) (over : OverTheorems) (qp : Qp) (s : List ℕ)
     law_row_fits = record { form = λ outside j h. coefficient_fits j h; whole = whole }
 
   -- ---- all rows
-  law_rows : (k : ℕ) (rows : List RowInt) → k ≡ m → AreFilled (λ r. number_from table (n + r) (rights qp)) width k rows → AreLawRows qp (swept_law qp s) rows
+  pub law_rows : (k : ℕ) (rows : List RowInt) → k ≡ m → AreFilled (λ r. number_from table (n + r) (rights qp)) width k rows → AreLawRows qp (swept_law qp s) rows
   law_rows k rows h a = subst (λ l. AreLawRows qp l rows) (sym (swept_law_is qp s)) (record {
     one_each = a.one_each ∙ h;
     each = λ r l. law_row (r + 1) (omega arith) (omega arith) (get_or rows r no_row) (subst (λ q. IsRowFrom (number_from table (n + q) (rights qp)) width (get_or rows r no_row)) (omega arith) (a.each r (omega arith)));

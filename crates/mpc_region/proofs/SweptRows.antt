@@ -98,12 +98,12 @@ regrouped k p x = by_ring (k ∷ p ∷ x ∷ []) (search reads depth 30) (search
 
 module _ (f : ℕ → ℤ) (width : ℕ) (row : RowInt) (r : IsRowFrom f width row) where
   -- each of the row's numbers, times the divisor, has the size of one of the numbers
-  side_size : (j : ℕ) (d : ℤ) → j < length row.a → unsigned_abs (get_or row.a j d) * r.by ≡ unsigned_abs (f (suc j))
+  pub side_size : (j : ℕ) (d : ℤ) → j < length row.a → unsigned_abs (get_or row.a j d) * r.by ≡ unsigned_abs (f (suc j))
   side_size j d h =
       ap (λ z. unsigned_abs z * r.by) (get_or_default row.a j d (pos 0) h) ∙ sym (unsigned_abs-mul (get_or row.a j (pos 0)) (pos r.by)) ∙ ap unsigned_abs (r.sides.each j h)
       ∙ abs_negated (f (suc j))
 
-  bound_size : unsigned_abs row.b * r.by ≡ unsigned_abs (f 0)
+  pub bound_size : unsigned_abs row.b * r.by ≡ unsigned_abs (f 0)
   bound_size = sym (unsigned_abs-mul row.b (pos r.by)) ∙ ap unsigned_abs r.bound
 
   -- what divides all of the row's numbers, times the divisor, divides all of the numbers
@@ -162,7 +162,7 @@ module _ (f : ℕ → ℤ) (width : ℕ) (row : RowInt) (r : IsRowFrom f width r
         right = scaled_once den some row.b (f 0) r.bound ∙ ap (λ u. k *ℚ u) (sym h);
       }
 
-  at_most_times : (m : ℕ) → m ≤ m * r.by
+  pub at_most_times : (m : ℕ) → m ≤ m * r.by
   at_most_times m = subst (λ n. n ≤ m * r.by) (mul-one m) (mul-le-mul_left m r.positive)
 
   -- a row of small numbers

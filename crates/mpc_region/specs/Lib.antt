@@ -5,3 +5,4 @@ pub mod Sweeps
 pub mod SweptRows
 pub mod SweptSets
 pub mod Asked
+pub mod Refuters

@@ -5,6 +5,7 @@ ghost use Rattle.mpc_space.specs.Matrix.{height};
 ghost use Rattle.mpc_sets.specs.RowSet.{IsSetOfRows};
 ghost use Rattle.mpc_region.specs.Kept.{AreReachRuns, IsKept, IsReachRun};
 
+use crate::refuters::Refuters;
 use mpc_frac::NoMemory;
 use mpc_rows::{Qp, law_theorems};
 use mpc_sets::ActiveSet;
@@ -24,6 +25,8 @@ pub struct Kept {
     pub states: Option<Beginning>,
     /// Lists for the runs of regions.
     pub work: Workspace,
+    /// The rows that showed of the last empty regions that they are.
+    pub refuters: Refuters,
 }
 
 /// Nothing is kept yet but the run of the box, which takes no step.
@@ -37,6 +40,7 @@ pub fn kept_of(alloc: Global, qp: &Qp) -> Result<Kept, NoMemory>
         reaches: Vec::new(alloc),
         states,
         work: Workspace::new(alloc),
+        refuters: Refuters::new(alloc),
     })
 }
 

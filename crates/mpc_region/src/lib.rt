@@ -13,6 +13,7 @@ mod law;
 mod matrices;
 mod points;
 mod reach;
+mod refuters;
 mod region;
 mod rows;
 mod shared;

@@ -173,10 +173,16 @@ fn by_table(
 {
     region_theorems();
     law_theorems();
+    if kept.refuters.refute(qp, table, set) {
+        return Ok(Verdict::Hollow);
+    }
     fill_rows(qp, table, set, lines)?;
     match meets_box(alloc, qp, kept, &lines.rows)? {
         Some(true) => Ok(Verdict::Region(law_of_table(alloc, qp, table, set)?)),
-        Some(false) => Ok(Verdict::Hollow),
+        Some(false) => {
+            kept.refuters.note(&kept.work, qp.counts.len())?;
+            Ok(Verdict::Hollow)
+        }
         None => by_rows(alloc, qp, law_of_table(alloc, qp, table, set)?),
     }
 }

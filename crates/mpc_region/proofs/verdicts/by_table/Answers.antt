@@ -8,7 +8,7 @@ use Rattle.mpc_rows.specs.SetRuns.{LawRowsFit}
 use Rattle.mpc_rows.specs.Verdicts.{IsRight, ReachFits}
 use Rattle.mpc_region.specs.Sweeps.{swept_law}
 use Rattle.mpc_region.proofs.BoxRuns.{region_answer, region_fits}
-use Rattle.mpc_region.proofs.RightVerdicts.{right_region, right_hollow}
+use Rattle.mpc_region.proofs.RightVerdicts.{right_region, right_hollow, right_refuted}
 use Rattle.mpc_region.proofs.SweptLaws.{swept_set}
 use Rattle.mpc_region.proofs.verdicts.by_table.Goals as goal
 
@@ -31,6 +31,11 @@ by_rows-requires-clause-reach_fits c =
     let e : c.in_ok-law_of_table-in-None.field-0.set ≡ c.args.set = ap (λ (law : Law). law.set) c.in_ok-law_of_table-in-None.ensures ∙ swept_set c.args.qp.now c.args.set in
     subst (ReachFits c.args.qp.now) (sym e) c.requires.reach_fits
 
+pub returns-then-refute-clause-right : goal.returns-then-refute-clause-right
+returns-then-refute-clause-right c =
+    right_refuted c.args.qp.now c.args.set (swept_law c.args.qp.now c.args.set) (swept_set c.args.qp.now c.args.set) c.requires.law c.requires.grows c.requires.reach_fits
+    (c.refute.ensures.empty c.if-refute.true) (c.refute.ensures.rows_fit c.if-refute.true) (c.refute.ensures.region_fits c.if-refute.true)
+
 pub returns-in_ok-law_of_table-in-Some-true-clause-right : goal.returns-in_ok-law_of_table-in-Some-true-clause-right
 returns-in_ok-law_of_table-in-Some-true-clause-right c =
     subst (λ law. IsRight c.args.qp.now c.args.set (Region law)) (sym c.in_ok-law_of_table-in-Some-true.ensures)
@@ -40,8 +45,8 @@ returns-in_ok-law_of_table-in-Some-true-clause-right c =
     (region_answer c.args.qp.now c.in_ok-fill_rows.ensures.rows.list c.fill_rows.new.lines.rows c.in_ok-fill_rows.ensures.rows.rows c.in_ok-meets_box.field-0 c.in_ok-meets_box.ensures.answer)
     (region_fits c.args.qp.now c.in_ok-fill_rows.ensures.rows.list c.fill_rows.new.lines.rows c.in_ok-fill_rows.ensures.rows.rows c.in_ok-meets_box.field-0 c.in_ok-meets_box.ensures.fits) c.in-Some-true.field-0-test)
 
-pub returns-in-Some-false-clause-right : goal.returns-in-Some-false-clause-right
-returns-in-Some-false-clause-right c =
+pub returns-in_ok-note-in-Some-false-clause-right : goal.returns-in_ok-note-in-Some-false-clause-right
+returns-in_ok-note-in-Some-false-clause-right c =
     right_hollow c.region_theorems.ensures c.law_theorems.ensures c.args.qp.now c.args.set (swept_law c.args.qp.now c.args.set) (swept_set c.args.qp.now c.args.set) c.requires.law c.requires.grows c.requires.reach_fits
     c.in_ok-fill_rows.ensures.rows.list c.in_ok-fill_rows.ensures.rows.of_law c.fill_rows.ensures.fit
     c.in_ok-meets_box.field-0 c.in-Some-false.field-0 c.in-Some-false.is
