@@ -107,6 +107,38 @@ fn add_line(
     }
 }
 
+/// The reply lines of the text, by what all states of the program share.
+fn lines_with(
+    alloc: Global,
+    program: &Qp,
+    prepared: &mut Prepared,
+    inputs: usize,
+    input: &[u8],
+) -> Result<Vec<u8>, NoMemory>
+    requires definite { IsDefinite program.now.h.rows }
+    requires symmetric { IsSymmetric program.now.h.rows }
+    requires prepared { IsPreparedFor program.now prepared.old }
+    requires inputs { inputs ≤ height program.now.h }
+    ensures { IfOk result (λ text. AreStateLines (IsOf program.now inputs) program.now (length program.now.counts) (lines input.now) text.items) }
+{
+    let mut text = Vec::new(alloc);
+    let mut counts = Vec::new(alloc);
+    let mut rest = input;
+    while let Some((line, after)) = first_line(rest) {
+        add_line(
+            alloc,
+            program,
+            prepared,
+            inputs,
+            line,
+            &mut counts,
+            &mut text,
+        )?;
+        rest = after;
+    }
+    Ok(text)
+}
+
 /// One reply line for each line of the text: `bad line` where it isn't one count for each coordinate of a state, with one blank between two;
 /// which is the first count above its limit, or what the program says at the state.
 pub(crate) fn state_lines(
@@ -121,20 +153,5 @@ pub(crate) fn state_lines(
     ensures { IfOk result (λ text. AreStateLines (IsOf program.now inputs) program.now (length program.now.counts) (lines input.now) text.items) }
 {
     let mut prepared = prepare(alloc, program)?;
-    let mut text = Vec::new(alloc);
-    let mut counts = Vec::new(alloc);
-    let mut rest = input;
-    while let Some((line, after)) = first_line(rest) {
-        add_line(
-            alloc,
-            program,
-            &mut prepared,
-            inputs,
-            line,
-            &mut counts,
-            &mut text,
-        )?;
-        rest = after;
-    }
-    Ok(text)
+    lines_with(alloc, program, &mut prepared, inputs, input)
 }

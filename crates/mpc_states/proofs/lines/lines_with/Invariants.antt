@@ -2,7 +2,7 @@ use Rattle.std.proofs.Common.{List, ℕ, ◌++◌, length}
 use Rattle.std.specs.Str.Lines.{lines}
 use Rattle.mpc_online.specs.Shared.{IsPreparedFor}
 use Rattle.mpc_states.specs.StateLines.{IsOf, AreStateLines}
-use Rattle.mpc_states.proofs.lines.state_lines.Given as goal
+use Rattle.mpc_states.proofs.lines.lines_with.Given as goal
 
 abbrev pub invariant-loop-line : goal.invariant-loop-line
 invariant-loop-line l = record {

@@ -4,12 +4,12 @@ use Rattle.std.specs.Str.Lines.{lines}
 use Rattle.std.proofs.lemmas.List.{append-nil}
 use Rattle.mpc_states.specs.StateLines.{IsOf, AreStateLines, no_lines}
 use Rattle.mpc_states.proofs.LineLemmas.{lines_more}
-use Rattle.mpc_states.proofs.lines.state_lines.Goals as goal
+use Rattle.mpc_states.proofs.lines.lines_with.Goals as goal
 
 pub loop-line-init : goal.loop-line-init
 loop-line-init c = record {
   text = λ more h. subst (λ t. AreStateLines (IsOf c.args.program.now c.args.inputs) c.args.program.now (length c.args.program.now.counts) (lines c.args.input.now) (t ++ more)) (sym c.new-text.ensures.items) h;
-  prepared = c.in_ok-prepared.ensures;
+  prepared = c.requires.prepared;
 }
 
 pub loop-line-preserved : goal.loop-line-preserved
