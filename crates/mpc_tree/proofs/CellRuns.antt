@@ -1,17 +1,20 @@
 -- The systems at a node have the rows of its cell first, so their runs go on from the cell's.
-use Rattle.std.proofs.Common.{◌≡◌, ℕ, ◌++◌, List, [], ◌∷◌, length, map, Option, Some, None, Result, Ok, Err, IfSome, IfOk, refl, sym, ◌∙◌, ap, subst}
+use Rattle.std.proofs.Common.{◌≡◌, ℕ, ◌++◌, List, [], ◌∷◌, length, map, Option, Some, None, Result, Ok, Err, IfSome, IfOk, refl, sym, ◌∙◌, ap, subst, Contains, slice_get, option_map}
 use Rattle.std.proofs.lemmas.List.{append-nil, append_assoc, length-map}
+use Rattle.std.proofs.lemmas.Option.{slice_get-map, slice_get_within, get_or_from_slice_get}
 use Rattle.mpc_exact.specs.Rational.{int}
 use Rattle.mpc_linear.specs.declared.integers.RowInt.{RowInt}
 use Rattle.mpc_rows.specs.declared.programs.Qp.{Qp}
 use Rattle.mpc_rows.specs.declared.systems.Row.{Row}
 use Rattle.mpc_rows.specs.LinearSystem.{LinearSystem}
 use Rattle.mpc_rows.specs.LawRows.{whole_row, broken_row}
+use Rattle.mpc_rows.specs.RunWidth.{RunFits}
 use Rattle.mpc_rows.specs.SetRuns.{box_rows}
 use Rattle.mpc_beginnings.specs.Beginnings.{lengthened}
 use Rattle.mpc_systems.specs.Systems.{meet_system, hold_system}
 use Rattle.mpc_systems.specs.Writing.{IsOfSize}
 use Rattle.mpc_tree.specs.CellRuns.{boxed_cell, IsRunOf, IsRunWith}
+use Rattle.mpc_tree.specs.NodeRuns.{HoldsFit}
 
 -- ---- the rows that are put behind a system have its width
 module _ (row : RowInt) (r : Row) where
@@ -73,6 +76,12 @@ module _ (qp : Qp) (cell : List Row) where
 
         pub behind_rows : lengthened s t.rows ≡ meet_system qp cell rows
         behind_rows = ap (λ (u : LinearSystem). lengthened s u.rows) e ∙ meets_from rows
+
+        pub behind_holds : ((row : RowInt) → Contains t.rows (whole_row row) → RunFits (lengthened s (broken_row row ∷ []))) → HoldsFit qp cell rows (length rows)
+        behind_holds h i row l k =
+            let at : slice_get (map whole_row rows) i ≡ Some (whole_row row) = slice_get-map whole_row rows i ∙ ap (option_map whole_row) k in
+            let inside : Contains (map whole_row rows) (whole_row row) = (i, slice_get_within (map whole_row rows) i (whole_row row) at, get_or_from_slice_get (map whole_row rows) i (whole_row row) (whole_row row) at) in
+            subst RunFits (holds_from row) (h row (subst (λ rs. Contains rs (whole_row row)) (sym (ap (λ (u : LinearSystem). u.rows) e)) inside))
 
       pub row_size : (row : RowInt) → IsOfSize (length qp.counts) row → length row.a ≡ s.width
       row_size row h = h.size ∙ kept_width

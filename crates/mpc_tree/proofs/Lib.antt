@@ -2,6 +2,7 @@ pub mod CellPoints
 pub mod CellRuns
 pub mod CertLists
 pub mod NodeLemmas
+pub mod LeftOut
 pub mod MissedLaws
 pub mod Placing
 pub mod TreeLemmas

@@ -1,5 +1,5 @@
 -- What the search finds at one node.
-use Rattle.std.specs.Prelude.{◌≡◌, ℕ, ◌+◌, ◌≤◌, List, [], ◌∷◌, ◌++◌, length, Option, Some, None, slice_get, Contains}
+use Rattle.std.specs.Prelude.{◌≡◌, ℕ, ◌+◌, ◌-◌, ◌≤◌, List, [], ◌∷◌, ◌++◌, drop, length, Option, Some, None, slice_get, Contains}
 use Rattle.mpc_exact.specs.Rational.{ℚ}
 use Rattle.mpc_linear.specs.declared.integers.RowInt.{RowInt}
 use Rattle.mpc_rows.specs.declared.programs.Qp.{Qp}
@@ -16,6 +16,7 @@ use Rattle.mpc_systems.specs.Systems.{meet_system}
 use Rattle.mpc_systems.specs.Writing.{HasBoxWidth}
 use Rattle.mpc_tree.specs.declared.nodes.Held.{Held}
 use Rattle.mpc_tree.specs.declared.nodes.Held.TheVariants.{Fails, Holds}
+use Rattle.mpc_tree.specs.declared.nodes.Met.{Met}
 use Rattle.mpc_tree.specs.declared.nodes.Placed.{Placed}
 use Rattle.mpc_tree.specs.declared.nodes.Placed.TheVariants.{Split, Leaf}
 use Rattle.mpc_tree.specs.CellRuns.{IsRunOf}
@@ -41,11 +42,27 @@ pub record MeetsNext (qp : Qp) (laws : List Law) (cell : Cell) : Type 0 where
   pub is : slice_get laws cell.next ≡ Some law
   pub meets : RegionMeets qp cell.rows law
 
--- the search for a state of the cell in that region fits
+-- the search for a state of the cell in that region fits, and so those for a state where one of its rows fails
 pub record NextFits (qp : Qp) (borders : List (List RowInt)) (cell : Cell) : Type 0 where
   pub rows : List RowInt
   pub is_border : slice_get borders cell.next ≡ Some rows
   pub fits : RunFits (meet_system qp cell.rows rows)
+  pub holds : HoldsFit qp cell.rows rows (length rows)
+
+-- that law has so many first rows, and none of them fails on the cell
+pub record HoldFirst (qp : Qp) (borders : List (List RowInt)) (cell : Cell) (held : ℕ) : Type 0 where
+  pub within : (rows : List RowInt) → slice_get borders cell.next ≡ Some rows → held ≤ length rows
+  pub none : (rows : List RowInt) → slice_get borders cell.next ≡ Some rows → NoneFailsBefore qp rows cell.rows held
+
+-- the runs of so many first rows can be left out, as none of these fails on the cell, and the runs fit
+pub record AreLeftOut (qp : Qp) (cell : List Row) (rows : List RowInt) (count : ℕ) : Type 0 where
+  pub within : count ≤ length rows
+  pub none : NoneFailsBefore qp rows cell count
+  pub fits : HoldsFit qp cell rows count
+
+-- those of the law with which the search goes on
+abbrev pub IsLeftOutOf : Qp → List (List RowInt) → Cell → ℕ → Type 0
+IsLeftOutOf qp borders cell count = (rows : List RowInt) → slice_get borders cell.next ≡ Some rows → AreLeftOut qp cell.rows rows count
 
 -- the first law whose region meets the cell, and the runs that find it fit
 pub record IsMeeting (qp : Qp) (laws : List Law) (cell : Cell) (place : ℕ) : Type 0 where
@@ -57,9 +74,9 @@ pub record IsNoMeeting (qp : Qp) (laws : List Law) (cell : Cell) : Type 0 where
   pub none : NoneMeetsBefore qp laws cell.rows (length laws)
   pub fits : MeetsFit qp laws cell (length laws)
 
-abbrev pub IsFirstMeeting : Qp → List Law → Cell → Option ℕ → Type 0
+abbrev pub IsFirstMeeting : Qp → List Law → Cell → Option Met → Type 0
 IsFirstMeeting qp laws cell None = IsNoMeeting qp laws cell
-IsFirstMeeting qp laws cell (Some place) = IsMeeting qp laws cell place
+IsFirstMeeting qp laws cell (Some met) = IsMeeting qp laws cell met.place
 
 -- the first of the rows that fails on the cell
 pub record IsFailing (qp : Qp) (cell : List Row) (rows : List RowInt) (place : ℕ) : Type 0 where
@@ -74,6 +91,16 @@ pub record AllHold (qp : Qp) (cell : List Row) (rows : List RowInt) (certs : Lis
   pub none : NoneFailsBefore qp rows cell (length rows)
   pub certs_are : AreCertsOf qp cell rows (length rows) certs
   pub fits : HoldsFit qp cell rows (length rows)
+
+-- no row fails, as the certificates of those behind the first so many show
+pub record FurtherHold (qp : Qp) (cell : List Row) (rows : List RowInt) (first : ℕ) (certs : List (List (ℕ × ℚ))) : Type 0 where
+  pub none : NoneFailsBefore qp rows cell (length rows)
+  pub certs_are : AreCertsOf qp cell (drop first rows) (length rows - first) certs
+  pub fits : HoldsFit qp cell rows (length rows)
+
+abbrev pub IsHeldBehind : Qp → List Row → List RowInt → ℕ → Held → Type 0
+IsHeldBehind qp cell rows first (Fails place run) = (f : IsFailing qp cell rows place) × IsRunOf qp (cell ++ broken_row f.row ∷ []) run
+IsHeldBehind qp cell rows first (Holds certs) = FurtherHold qp cell rows first certs
 
 abbrev pub IsHeld : Qp → List Row → List RowInt → Held → Type 0
 IsHeld qp cell rows (Fails place run) = (f : IsFailing qp cell rows place) × IsRunOf qp (cell ++ broken_row f.row ∷ []) run

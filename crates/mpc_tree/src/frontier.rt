@@ -115,7 +115,7 @@ fn divided_cell(
     kept.missed = Missed::new(alloc, 0)?;
     let at = Visit {
         next,
-        known: false,
+        held: 0,
         node: 1,
     };
     match place_node(alloc, kept, qp, laws, borders, &cell, at) {

@@ -92,8 +92,8 @@ fn enter(cell: &mut KeptCell, side: OpenSide) -> Result<usize, NoMemory>
 /// preorder; the no sides that are still to come lie on a stack. `Wide` numbers the nodes from 1.
 /// A tree that is watched is given up once it is called off. Its list has no more room than its nodes need.
 ///
-/// `held` counts rows of the next law that hold on the cell since the search was split by them: the
-/// next split is by a later one, so the search ends. Where there are any, the law is known to meet the cell.
+/// `held` counts first rows of the next law that hold on the cell since the search was split by the last of
+/// them: the next split is by a later one, so the search ends. Where there are any, the law is known to meet the cell.
 pub fn grown(
     alloc: Global,
     qp: &Qp,
@@ -121,9 +121,8 @@ pub fn grown(
         if is_called_off(&watch) {
             return Err(Stop::GivenUp);
         }
-        let known = 0 < held;
         let node = tree.len() as u64 + 1;
-        let at = Visit { next, known, node };
+        let at = Visit { next, held, node };
         match place_node(alloc, &mut kept, qp, laws, borders, &cell, at) {
             Ok(Placed::Split { place, row, run }) => {
                 let rows = borders[place].as_slice();

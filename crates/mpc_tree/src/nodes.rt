@@ -1,6 +1,6 @@
 //! What stands at one node of the tree.
 
-ghost use Rattle.std.specs.Prelude.{◌≡◌, ◌+◌, ◌<◌, ◌≤◌, ◌^◌, Some, All, IsTrue, IfOk, IfErr, IfSome, MatchOption, MatchResult, OnOk, length};
+ghost use Rattle.std.specs.Prelude.{◌≡◌, ◌+◌, ◌<◌, ◌≤◌, ◌^◌, Some, All, IsTrue, IfOk, IfErr, IfSome, MatchResult, OnOk, length};
 ghost use Rattle.mpc_rows.specs.RunWidth.{RunFits};
 ghost use Rattle.mpc_simplex.specs.Answer.{HasPoint, IfWide as IfRunWide};
 ghost use Rattle.mpc_systems.specs.Writing.{HasBoxWidth, IsOfSize, AreOfSize};
@@ -9,9 +9,10 @@ ghost use Rattle.mpc_tree.specs.Causes.{IfWide};
 ghost use Rattle.mpc_tree.specs.CellRuns.{IsOpenAt, IsRunOf};
 ghost use Rattle.mpc_tree.specs.Cells.{NoneMeetsBefore};
 ghost use Rattle.mpc_tree.specs.Ends.{IsEndOf};
-ghost use Rattle.mpc_tree.specs.Growth.{RegionsCover, NextFits, MeetsNext, IsFirstMeeting, IsHeld, NamesWideRow, IsPlaced};
-ghost use Rattle.mpc_tree.specs.LeafCerts.{IsCertOf};
+ghost use Rattle.mpc_tree.specs.Growth.{RegionsCover, NextFits, MeetsNext, HoldFirst, AreLeftOut, IsLeftOutOf, IsFirstMeeting, IsHeldBehind, IsHeld, NamesWideRow, IsPlaced};
+ghost use Rattle.mpc_tree.specs.LeafCerts.{IsCertOf, AreCertsOf};
 ghost use Rattle.mpc_tree.specs.Missed.{AreMissed, IsRegion};
+ghost use Rattle.mpc_tree.specs.NodeRuns.{HoldsFit};
 ghost use Rattle.mpc_systems.specs.Systems.{meet_system, hold_system, joint_system};
 ghost use Rattle.mpc_tree.specs.WideRuns.{IsWideAt};
 
@@ -28,13 +29,22 @@ use mpc_simplex::{Beginning, Meeting, SimplexError, Workspace};
 use mpc_systems::{cell_theorems, hold_system, joint_system, meet_system};
 use std::alloc::Global;
 
-/// A visit to a node: the place of the law, from 0, with which its search goes on, whether this law is known to
-/// meet the cell, and the node's number.
+/// A visit to a node: the place of the law, from 0, with which its search goes on, how many first rows of this
+/// law are known to hold on the cell, and the node's number. Where there are such rows, the law is known to
+/// meet the cell.
 #[derive(Clone, Copy, Drop)]
 pub struct Visit {
     pub next: usize,
-    pub known: bool,
+    pub held: usize,
     pub node: u64,
+}
+
+/// A law that meets a cell: its place, from 0, and how many of its first rows are known to hold on the cell, and
+/// their runs to fit, though none was made.
+#[derive(Clone, Copy, Drop)]
+pub struct Met {
+    pub place: usize,
+    pub held: usize,
 }
 
 /// Whether the rows of a law hold on a cell.
@@ -137,10 +147,11 @@ fn region_meets(
 }
 
 /// Whether it is seen without a run that the one that asks for a point of the cell in the region with
-/// these rows fits.
+/// these rows fits, and so each that asks for a point of the cell where one of the rows fails.
 fn fits_behind(qp: &Qp, cell: &KeptCell, border: &Border) -> bool
     requires { IsRunOf qp.now cell.now.rows.items cell.now.run }
-    ensures { IsTrue result → RunFits (meet_system qp.now cell.now.rows.items border.now) }
+    ensures meets { IsTrue result → RunFits (meet_system qp.now cell.now.rows.items border.now) }
+    ensures holds { IsTrue result → HoldsFit qp.now cell.now.rows.items border.now (length border.now) }
 {
     let Some(run) = &cell.run else {
         return false;
@@ -151,14 +162,14 @@ fn fits_behind(qp: &Qp, cell: &KeptCell, border: &Border) -> bool
     }
 }
 
-/// Whether the law with which the search goes on is known to meet the cell, and it is seen without a run
-/// that the one that would find this fits.
+/// Whether first rows of the law with which the search goes on are known to hold on the cell, and so the law to
+/// meet it, and it is seen without a run that those that would find this fit.
 fn meets_next(qp: &Qp, cell: &KeptCell, borders: &[Border], at: Visit) -> bool
     requires run { IsRunOf qp.now cell.now.rows.items cell.now.run }
-    requires within { IsTrue at.known → at.next < length borders.now }
-    ensures { IsTrue result → IsTrue at.known × NextFits qp.now borders.now (record { rows = cell.now.rows.items; next = at.next }) }
+    requires within { 0 < at.held → at.next < length borders.now }
+    ensures { IsTrue result → (0 < at.held) × NextFits qp.now borders.now (record { rows = cell.now.rows.items; next = at.next }) }
 {
-    at.known && fits_behind(qp, cell, &borders[at.next])
+    0 < at.held && fits_behind(qp, cell, &borders[at.next])
 }
 
 /// A certificate that the row holds on the cell, or else that it fails at a state of the cell.
@@ -191,9 +202,9 @@ fn hold_end(
     plain_end(alloc, &system)
 }
 
-/// The place of the first law, from the next one on, whose region meets the cell of the node. A law
-/// that is known to be missed is passed over where its run is seen to fit, so no refusal is lost; and so
-/// one that is known to be met is found.
+/// The first law, from the next one on, whose region meets the cell of the node. A law that is known to be
+/// missed is passed over where its run is seen to fit, so no refusal is lost; and so one that is known to be
+/// met is found, with its rows that are known to hold.
 fn first_meeting(
     alloc: Global,
     kept: &mut Search,
@@ -202,7 +213,7 @@ fn first_meeting(
     borders: &[Border],
     cell: &KeptCell,
     at: Visit,
-) -> Result<Option<usize>, TreeError>
+) -> Result<Option<Met>, TreeError>
     requires few { length laws.now < 2 ^ 32 }
     requires borders { AreBorders qp.now laws.now borders.now }
     requires cell { HasBoxWidth qp.now cell.now.rows.items }
@@ -210,16 +221,21 @@ fn first_meeting(
     requires open { IsOpenAt cell.now.run kept.old.work }
     requires missed { AreMissed qp.now borders.now cell.now.rows.items kept.old.missed }
     requires before { NoneMeetsBefore qp.now laws.now cell.now.rows.items at.next }
-    requires known { IsTrue at.known → MeetsNext qp.now laws.now (record { rows = cell.now.rows.items; next = at.next }) }
+    requires known { 0 < at.held → MeetsNext qp.now laws.now (record { rows = cell.now.rows.items; next = at.next }) }
+    requires held { 0 < at.held → HoldFirst qp.now borders.now (record { rows = cell.now.rows.items; next = at.next }) at.held }
     ensures open { IsOpenAt cell.now.run kept.new.work }
     ensures missed { OnOk result (AreMissed qp.now borders.now cell.now.rows.items kept.new.missed) }
     ensures first { IfOk result (λ o. IsFirstMeeting qp.now laws.now (record { rows = cell.now.rows.items; next = at.next }) o) }
-    ensures below { IfOk result (λ o. MatchOption o (at.next ≡ at.next) (λ place. (at.next ≤ place) × (place < length laws.now))) }
+    ensures left_out { IfOk result (λ o. IfSome o (λ met. IsLeftOutOf qp.now borders.now (record { rows = cell.now.rows.items; next = met.place }) met.held)) }
+    ensures below { IfOk result (λ o. IfSome o (λ met. (at.next ≤ met.place) × (met.place < length laws.now))) }
     ensures wide { IfErr result (λ e. IfWide e (IsWideAt qp.now laws.now (record { rows = cell.now.rows.items; next = at.next }) at.node)) }
 {
     cell_theorems();
     if meets_next(qp, cell, borders, at) {
-        return Ok(Some(at.next));
+        return Ok(Some(Met {
+            place: at.next,
+            held: at.held,
+        }));
     }
     for place in at.next..laws.len() {
         let border = &borders[place];
@@ -227,7 +243,7 @@ fn first_meeting(
             continue;
         }
         match region_meets(alloc, &mut kept.work, qp, cell, border) {
-            Ok(Region::Met) => return Ok(Some(place)),
+            Ok(Region::Met) => return Ok(Some(Met { place, held: 0 })),
             Ok(Region::Missed(rows)) => kept.missed.note(place, rows),
             Err(SimplexError::Wide) => {
                 return Err(TreeError::Wide(Place::Meet(at.node, place as u32 + 1)));
@@ -238,8 +254,77 @@ fn first_meeting(
     Ok(None)
 }
 
-/// Whether the rows of the law with this number hold on the cell of the node, with the
-/// certificates or the first row that fails.
+/// Whether the rows of the law that meets the cell of the node hold on it, behind those that are known to hold,
+/// with the certificates of these further rows, or the first row that fails.
+fn further_rows(
+    alloc: Global,
+    work: &mut Workspace,
+    qp: &Qp,
+    rows: &[RowInt],
+    cell: &KeptCell,
+    node: u64,
+    met: Met,
+) -> Result<Held, TreeError>
+    requires few { length rows.now < 2 ^ 32 }
+    requires few_laws { met.place + 1 < 2 ^ 32 }
+    requires plain { AreOfSize (length qp.now.counts) rows.now }
+    requires cell { HasBoxWidth qp.now cell.now.rows.items }
+    requires run { IsRunOf qp.now cell.now.rows.items cell.now.run }
+    requires open { IsOpenAt cell.now.run work.old }
+    requires left_out { AreLeftOut qp.now cell.now.rows.items rows.now met.held }
+    ensures open { IsOpenAt cell.now.run work.new }
+    ensures held { IfOk result (λ h. IsHeldBehind qp.now cell.now.rows.items rows.now met.held h) }
+    ensures wide { IfErr result (λ e. IfWide e (NamesWideRow qp.now cell.now.rows.items rows.now node (met.place + 1))) }
+{
+    cell_theorems();
+    let mut certs = Certs::new(alloc);
+    for place in met.held..rows.len() {
+        match hold_end(alloc, work, qp, cell, &rows[place]) {
+            Ok(End::Refuted(cert)) => certs.push(cert)?,
+            Ok(End::Point(run)) => return Ok(Held::Fails { place, run }),
+            Err(SimplexError::Wide) => {
+                let wide = Place::Holds(node, met.place as u32 + 1, place as u32 + 1);
+                return Err(TreeError::Wide(wide));
+            }
+            Err(SimplexError::NoMemory) => return Err(TreeError::NoMemory),
+        }
+    }
+    Ok(Held::Holds(certs))
+}
+
+/// The certificates of the first so many rows, which are known to hold on the cell, and their runs to fit. The
+/// list has room for those of the other rows.
+fn first_certs(
+    alloc: Global,
+    work: &mut Workspace,
+    qp: &Qp,
+    rows: &[RowInt],
+    cell: &KeptCell,
+    count: usize,
+) -> Result<Certs, NoMemory>
+    requires plain { AreOfSize (length qp.now.counts) rows.now }
+    requires cell { HasBoxWidth qp.now cell.now.rows.items }
+    requires run { IsRunOf qp.now cell.now.rows.items cell.now.run }
+    requires open { IsOpenAt cell.now.run work.old }
+    requires left_out { AreLeftOut qp.now cell.now.rows.items rows.now count }
+    ensures { IfOk result (AreCertsOf qp.now cell.now.rows.items rows.now count) }
+{
+    cell_theorems();
+    let mut certs = Certs::with_capacity(alloc, rows.len())?;
+    for place in 0..count {
+        match hold_end(alloc, work, qp, cell, &rows[place]) {
+            Ok(End::Refuted(cert)) => certs.push(cert)?,
+            Ok(End::Point(_)) => unreachable!(),
+            Err(SimplexError::Wide) => unreachable!(),
+            Err(SimplexError::NoMemory) => return Err(NoMemory),
+        }
+    }
+    Ok(certs)
+}
+
+/// Whether the rows of the law that meets the cell of the node hold on it, with the certificates or the first
+/// row that fails. Those that are known to hold are left out at first, as their runs are known to fit: they are
+/// run where no other row fails, for their certificates.
 fn first_failing(
     alloc: Global,
     work: &mut Workspace,
@@ -247,30 +332,26 @@ fn first_failing(
     rows: &[RowInt],
     cell: &KeptCell,
     node: u64,
-    law: u32,
+    met: Met,
 ) -> Result<Held, TreeError>
     requires few { length rows.now < 2 ^ 32 }
+    requires few_laws { met.place + 1 < 2 ^ 32 }
     requires plain { AreOfSize (length qp.now.counts) rows.now }
     requires cell { HasBoxWidth qp.now cell.now.rows.items }
     requires run { IsRunOf qp.now cell.now.rows.items cell.now.run }
     requires open { IsOpenAt cell.now.run work.old }
+    requires left_out { AreLeftOut qp.now cell.now.rows.items rows.now met.held }
     ensures held { IfOk result (λ h. IsHeld qp.now cell.now.rows.items rows.now h) }
-    ensures wide { IfErr result (λ e. IfWide e (NamesWideRow qp.now cell.now.rows.items rows.now node law)) }
+    ensures wide { IfErr result (λ e. IfWide e (NamesWideRow qp.now cell.now.rows.items rows.now node (met.place + 1))) }
 {
-    cell_theorems();
-    let mut certs = Certs::new(alloc);
-    for place in 0..rows.len() {
-        match hold_end(alloc, work, qp, cell, &rows[place]) {
-            Ok(End::Refuted(cert)) => certs.push(cert)?,
-            Ok(End::Point(run)) => return Ok(Held::Fails { place, run }),
-            Err(SimplexError::Wide) => {
-                return Err(TreeError::Wide(Place::Holds(node, law, place as u32 + 1)));
-            }
-            Err(SimplexError::NoMemory) => return Err(TreeError::NoMemory),
+    match further_rows(alloc, work, qp, rows, cell, node, met)? {
+        Held::Fails { place, run } => Ok(Held::Fails { place, run }),
+        Held::Holds(further) => {
+            let mut certs = first_certs(alloc, work, qp, rows, cell, met.held)?;
+            certs.append(further)?;
+            Ok(Held::Holds(certs))
         }
     }
-    certs.shrink_to_fit();
-    Ok(Held::Holds(certs))
 }
 
 /// The certificate that no state of the cell has admissible unknowns.
@@ -308,7 +389,8 @@ pub fn place_node(
     requires cover { RegionsCover qp.now laws.now }
     requires missed { AreMissed qp.now borders.now cell.now.rows.items kept.old.missed }
     requires before { NoneMeetsBefore qp.now laws.now cell.now.rows.items at.next }
-    requires known { IsTrue at.known → MeetsNext qp.now laws.now (record { rows = cell.now.rows.items; next = at.next }) }
+    requires known { 0 < at.held → MeetsNext qp.now laws.now (record { rows = cell.now.rows.items; next = at.next }) }
+    requires held { 0 < at.held → HoldFirst qp.now borders.now (record { rows = cell.now.rows.items; next = at.next }) at.held }
     ensures missed { OnOk result (AreMissed qp.now borders.now cell.now.rows.items kept.new.missed) }
     ensures placed { IfOk result (λ p. IsPlaced qp.now laws.now borders.now (record { rows = cell.now.rows.items; next = at.next }) p) }
     ensures wide { IfErr result (λ e. IfWide e (IsWideAt qp.now laws.now (record { rows = cell.now.rows.items; next = at.next }) at.node)) }
@@ -320,19 +402,15 @@ pub fn place_node(
             let cert = joint_cert(alloc, qp, &cell.rows, at.node)?;
             Ok(Placed::Leaf(Node::NoMove { cert }))
         }
-        Some(place) => {
-            let law = place as u32 + 1;
-            match first_failing(
-                alloc,
-                &mut kept.work,
-                qp,
-                borders[place].as_slice(),
-                cell,
-                at.node,
-                law,
-            ) {
+        Some(met) => {
+            let place = met.place;
+            let rows = borders[place].as_slice();
+            match first_failing(alloc, &mut kept.work, qp, rows, cell, at.node, met) {
                 Ok(Held::Fails { place: row, run }) => Ok(Placed::Split { place, row, run }),
-                Ok(Held::Holds(certs)) => Ok(Placed::Leaf(Node::Law { law, certs })),
+                Ok(Held::Holds(certs)) => {
+                    let law = place as u32 + 1;
+                    Ok(Placed::Leaf(Node::Law { law, certs }))
+                }
                 Err(error) => Err(error),
             }
         }

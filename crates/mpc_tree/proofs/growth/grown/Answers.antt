@@ -10,6 +10,7 @@ use Rattle.mpc_tree.proofs.CellRuns.{row_fits, narrowed}
 use Rattle.mpc_tree.proofs.Dividing.{place_within, row_within, rows_read, row_read, row_inside, plain_read, known_at, grown_at}
 use Rattle.mpc_tree.proofs.Ending.{smaller_at, smaller_leaf, weights}
 use Rattle.mpc_tree.proofs.Growing.{next_at, last_at, shared_within, top_run, wide_at}
+use Rattle.mpc_tree.proofs.LeftOut.{held_first}
 use Rattle.mpc_tree.proofs.MissedLaws.{missed_longer, missed_side}
 use Rattle.mpc_tree.proofs.growth.grown.Goals as goal
 
@@ -18,6 +19,9 @@ returns-in-Err-clause-wide c =
     wide_at c.args.qp.now c.args.laws.now (record { rows = c.args.cell.rows.items; next = c.args.next }) c.args.borders.now c.nodes.tree (record { rows = c.nodes.cell.rows.items; next = c.nodes.next }) c.nodes.sides.items c.nodes.held c.nodes.invariant.grown c.in-Err.error
     (subst (λ n. IfWide c.in-Err.error (IsWideAt c.args.qp.now c.args.laws.now (record { rows = c.nodes.cell.rows.items; next = c.nodes.next }) n)) (ap (λ n. n + 1) c.len.ensures)
     c.in-Err.ensures.wide)
+
+pub place_node-requires-clause-held : goal.place_node-requires-clause-held
+place_node-requires-clause-held c h = held_first c.args.qp.now c.args.borders.now (record { rows = c.nodes.cell.rows.items; next = c.nodes.next }) c.args.laws.now c.requires.borders c.nodes.held c.nodes.invariant.grown.held_within c.nodes.invariant.grown.holds
 
 pub bounds-borders-place : goal.bounds-borders-place
 bounds-borders-place c =

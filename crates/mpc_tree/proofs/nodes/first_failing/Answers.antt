@@ -1,48 +1,11 @@
-use Rattle.std.proofs.Common.{◌≡◌, ◌+◌, Some, slice_get, subst, subst₂, sym, arith, refl, length}
-use Rattle.std.proofs.lemmas.Option.{slice_get_read}
-use Rattle.mpc_tree.specs.Cells.{NoneFailsBefore}
-use Rattle.mpc_tree.specs.LeafCerts.{AreCertsOf}
-use Rattle.mpc_tree.specs.NodeRuns.{HoldsFit}
-use Rattle.mpc_tree.proofs.CellPoints.{fails_where}
-use Rattle.mpc_tree.proofs.CellRuns.{side_run}
-use Rattle.mpc_tree.proofs.NodeLemmas.{fails_none, holds_fit, certs_more, holds_wide}
+use Rattle.mpc_tree.proofs.LeftOut.{certs_joined}
 use Rattle.mpc_tree.proofs.nodes.first_failing.Goals as goal
 
-pub returns-in-Ok-Point-clause-held : goal.returns-in-Ok-Point-clause-held
-returns-in-Ok-Point-clause-held c =
-    let is : slice_get c.args.rows.now c.loop-place.place ≡ Some c.index-rows-place.result = slice_get_read c.args.rows.now (length c.args.rows.now) c.loop-place.place c.index-rows-place.result refl c.loop-place-test.true c.index-rows-place.is in
-    let end = rw c.in-Ok-Point.field-0-is at c.in-Ok-Point.ensures.end in (
-      record {
-        row = c.index-rows-place.result;
-        is = is;
-        fails = (fails_where c.cell_theorems.ensures c.args.qp.now c.args.cell.now.rows.items c.index-rows-place.result).1 end.0;
-        before = c.loop-place.invariant.none;
-        fits = holds_fit c.args.qp.now c.args.cell.now.rows.items c.args.rows.now c.loop-place.place c.index-rows-place.result is c.loop-place.invariant.fits c.in-Ok-Point.ensures.wide;
-      },
-      side_run c.args.qp.now c.args.cell.now.rows.items c.index-rows-place.result c.in-Ok-Point.run' end.1,
-    )
-
-pub returns-in-Err-Wide-clause-wide : goal.returns-in-Err-Wide-clause-wide
-returns-in-Err-Wide-clause-wide c =
-    let is : slice_get c.args.rows.now c.loop-place.place ≡ Some c.index-rows-place.result = slice_get_read c.args.rows.now (length c.args.rows.now) c.loop-place.place c.index-rows-place.result refl c.loop-place-test.true c.index-rows-place.is in
-    (c.loop-place.place + 1, refl, holds_wide c.args.qp.now c.args.cell.now.rows.items c.args.rows.now c.loop-place.place c.index-rows-place.result is c.loop-place.invariant.none c.loop-place.invariant.fits (rw c.in-Err-Wide.field-0-is at c.in-Err-Wide.ensures.wide))
-
-pub loop-place-preserved : goal.loop-place-preserved
-loop-place-preserved c =
-    let is : slice_get c.args.rows.now c.loop-place.place ≡ Some c.index-rows-place.result = slice_get_read c.args.rows.now (length c.args.rows.now) c.loop-place.place c.index-rows-place.result refl c.loop-place-test.true c.index-rows-place.is in
-    let end = rw c.in-Ok-Refuted.field-0-is at c.in-Ok-Refuted.ensures.end in
+pub returns-in_ok-append-in-Holds-clause-held : goal.returns-in_ok-append-in-Holds-clause-held
+returns-in_ok-append-in-Holds-clause-held c =
+    let further = rw c.in-Holds.is at c.in_ok-place.ensures.held in
     record {
-      none = fails_none c.args.qp.now c.args.cell.now.rows.items c.args.rows.now c.loop-place.place c.index-rows-place.result is c.loop-place.invariant.none (λ f. end.0 ((fails_where c.cell_theorems.ensures c.args.qp.now c.args.cell.now.rows.items c.index-rows-place.result).0 f));
-      certs_are = certs_more c.args.qp.now c.args.cell.now.rows.items c.args.rows.now c.loop-place.place c.index-rows-place.result is c.loop-place.certs c.push.new.self c.in-Ok-Refuted.cert c.loop-place.invariant.certs_are end.1 c.in_ok-push-in-Ok-Refuted.ensures.ok;
-      fits = holds_fit c.args.qp.now c.args.cell.now.rows.items c.args.rows.now c.loop-place.place c.index-rows-place.result is c.loop-place.invariant.fits c.in-Ok-Refuted.ensures.wide;
-      opened = c.in-Ok-Refuted.ensures.open;
-    }
-
-pub returns-clause-held : goal.returns-clause-held
-returns-clause-held c =
-    let all : c.loop-place.place ≡ length c.args.rows.now = omega arith in
-    record {
-      none = subst (NoneFailsBefore c.args.qp.now c.args.rows.now c.args.cell.now.rows.items) all c.loop-place.invariant.none;
-      certs_are = subst₂ (AreCertsOf c.args.qp.now c.args.cell.now.rows.items c.args.rows.now) all (sym c.shrink_to_fit.ensures) c.loop-place.invariant.certs_are;
-      fits = subst (HoldsFit c.args.qp.now c.args.cell.now.rows.items c.args.rows.now) all c.loop-place.invariant.fits;
+      none = further.none;
+      certs_are = certs_joined c.args.qp.now c.args.cell.now.rows.items c.args.rows.now c.args.met.held c.in_ok-certs-in-Holds.certs c.in-Holds.further c.append.new.self c.requires.left_out.within c.in_ok-certs-in-Holds.ensures further.certs_are c.in_ok-append-in-Holds.ensures.ok;
+      fits = further.fits;
     }

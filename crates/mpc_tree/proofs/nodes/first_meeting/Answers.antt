@@ -1,5 +1,6 @@
 use Rattle.std.proofs.Common.{◌≡◌, ◌+◌, ◌<◌, inl, Some, slice_get, arith, refl, length}
 use Rattle.std.proofs.lemmas.Option.{slice_get_read, slice_get_within}
+use Rattle.mpc_tree.proofs.LeftOut.{held_left_out, none_left_out}
 use Rattle.mpc_tree.proofs.MissedLaws.{missed_now, missed_noted}
 use Rattle.mpc_tree.proofs.NodeLemmas.{law_of, border_of, meets_none, meets_fit, meets_first, meets_known, meets_wide}
 use Rattle.mpc_tree.proofs.nodes.first_meeting.Goals as goal
@@ -27,6 +28,14 @@ returns-then-meets_next-clause-below c =
     let within = slice_get_within c.args.laws.now c.args.at.next next.law next.is in
     (omega arith, within)
 
+pub returns-then-meets_next-clause-left_out : goal.returns-then-meets_next-clause-left_out
+returns-then-meets_next-clause-left_out c =
+    let next = c.meets_next.ensures c.if-meets_next.true in
+    held_left_out c.args.qp.now c.args.borders.now (record { rows = c.args.cell.now.rows.items; next = c.args.at.next }) c.args.at.held (c.requires.held next.0) next.1
+
+pub returns-in-Ok-Met-clause-left_out : goal.returns-in-Ok-Met-clause-left_out
+returns-in-Ok-Met-clause-left_out c = none_left_out c.args.qp.now c.args.borders.now (record { rows = c.args.cell.now.rows.items; next = c.loop-place.place })
+
 pub returns-in-Ok-Met-clause-first : goal.returns-in-Ok-Met-clause-first
 returns-in-Ok-Met-clause-first c =
     let is = is_border (goal.at.returns-in-Ok-Met-clause-first c).After-index-borders-place in
@@ -44,7 +53,7 @@ loop-place-preserved-then-fits_behind c =
     let missed = c.loop-place.invariant.missed.each c.loop-place.place c.index-borders-place.result is (c.knows.ensures.0 c.if-knows.true) in
     record {
       none = meets_none c.args.qp.now c.args.laws.now c.args.borders.now c.requires.borders c.args.cell.now.rows.items c.loop-place.place c.index-borders-place.result is c.cell_theorems.ensures c.loop-place.invariant.none (missed_now c.args.qp.now c.index-borders-place.result c.args.cell.now.rows.items _ missed);
-      fits = meets_fit c.args.qp.now c.args.laws.now c.args.borders.now c.requires.borders c.args.cell.now.rows.items c.loop-place.place c.index-borders-place.result is c.args.at.next c.loop-place.invariant.fits (c.fits_behind.ensures c.if-fits_behind.true);
+      fits = meets_fit c.args.qp.now c.args.laws.now c.args.borders.now c.requires.borders c.args.cell.now.rows.items c.loop-place.place c.index-borders-place.result is c.args.at.next c.loop-place.invariant.fits (c.fits_behind.ensures.meets c.if-fits_behind.true);
       opened = c.loop-place.invariant.opened;
       missed = c.loop-place.invariant.missed;
     }
