@@ -3,6 +3,7 @@ use Rattle.std.proofs.Common.{◌≡◌, ℕ, ◌+◌, List, [], ◌∷◌, ◌+
 use Rattle.std.specs.Prelude.{All}
 use Rattle.std.proofs.lemmas.List.{append-nil, append_assoc, length-append}
 use Rattle.std.proofs.lemmas.List.Elements.{All-head, All-tail}
+use Rattle.mpc_linear.specs.declared.integers.RowInt.{RowInt}
 use Rattle.mpc_rows.specs.declared.programs.Qp.{Qp}
 use Rattle.mpc_rows.specs.declared.laws.Law.{Law}
 use Rattle.mpc_rows.specs.declared.places.Place.{Place}
@@ -14,7 +15,8 @@ use Rattle.mpc_tree.specs.declared.frontier.Piece.TheVariants.{Closed, Open, Ref
 use Rattle.mpc_rows.specs.declared.places.Place.TheVariants.{State, Cost, Row, Pivot, Law as OfLaw, Reach, Border, Region, Meet, Holds, Joint, LawBound, NodeBound, CheckLaw, CheckLeaf}
 use Rattle.mpc_tree.specs.Causes.{IfWide}
 use Rattle.mpc_tree.specs.Joins.{place_behind, IsWideBehind}
-use Rattle.mpc_tree.specs.Pieces.{cell_at, IsOpen, IsOfPiece, IsWideIn, AreFilled, IsWideAmong}
+use Rattle.mpc_tree.specs.Growth.{cell_of}
+use Rattle.mpc_tree.specs.Pieces.{IsOpen, IsOfPiece, IsWideIn, AreFilled, IsWideAmong}
 use Rattle.mpc_tree.specs.Trees.{Cell, yes_side, no_side}
 use Rattle.mpc_tree.specs.WideRuns.{IsWideAt, IsFirstWide, here, in_yes, in_no}
 
@@ -53,38 +55,39 @@ module _ (qp : Qp) (laws : List Law) where
   -- what the place of a refusal says of the numbers of a whole tree
   wide_in_behind : (before : ℕ) (piece : Piece) (place : Place) → IsWideIn qp laws piece 1 place → IsWideIn qp laws piece (before + 1) (place_behind before place)
   wide_in_behind before (Closed own) place w = w
-  wide_in_behind before (Open cell next) place w = subst (λ k. IsFirstWide qp laws (cell_at cell next) k (place_behind before place)) (omega arith) (first_behind before (cell_at cell next) 1 place w)
+  wide_in_behind before (Open o) place w = subst (λ k. IsFirstWide qp laws (cell_of o) k (place_behind before place)) (omega arith) (first_behind before (cell_of o) 1 place w)
   wide_in_behind before (Refused own) place w =
       let none : w.0 ≡ 0 = omega (arith, w.1) in
       (before, refl, ap (place_behind before) (w.2 ∙ ap (λ k. place_behind k own) none ∙ behind_none own))
 
-  -- ---- the tree so far, before the pieces that are left
+-- ---- the tree so far, before the pieces that are left
+module _ (qp : Qp) (laws : List Law) (borders : List (List RowInt)) where
   pub record IsJoined (pieces : List Piece) (tree : List Node) (rest : List Piece) : Type 0 where
     pub filled : (later : List Node) → AreFilled qp laws rest later → AreFilled qp laws pieces (tree ++ later)
     pub wide : (place : Place) → IsWideAmong qp laws rest (length tree + 1) place → IsWideAmong qp laws pieces 1 place
-    pub ready : All (IsOpen qp laws) rest
+    pub ready : All (IsOpen qp laws borders) rest
 
-  pub joined_none : (pieces : List Piece) (tree : List Node) (all : List Piece) → tree ≡ [] → all ≡ pieces → All (IsOpen qp laws) pieces → IsJoined pieces tree all
+  pub joined_none : (pieces : List Piece) (tree : List Node) (all : List Piece) → tree ≡ [] → all ≡ pieces → All (IsOpen qp laws borders) pieces → IsJoined pieces tree all
   joined_none pieces tree all t e o = subst (λ x. IsJoined pieces x all) (sym t) (subst (IsJoined pieces []) (sym e) (record { filled = λ later f. f; wide = λ place w. w; ready = o }))
 
   module _ (pieces : List Piece) (tree : List Node) (rest : List Piece) (piece : Piece) (left : List Piece) (j : IsJoined pieces tree rest) (e : rest ≡ piece ∷ left) where
     own : IsJoined pieces tree (piece ∷ left)
     own = subst (IsJoined pieces tree) e j
 
-    pub piece_open : IsOpen qp laws piece
-    piece_open = All-head (IsOpen qp laws) piece left own.ready
+    pub piece_open : IsOpen qp laws borders piece
+    piece_open = All-head (IsOpen qp laws borders) piece left own.ready
 
     pub joined_more : (nodes new : List Node) → IsOfPiece qp laws piece nodes → new ≡ tree ++ nodes → IsJoined pieces new left
     joined_more nodes new o n = subst (λ x. IsJoined pieces x left) (sym n) (record {
       filled = λ later f. subst (AreFilled qp laws pieces) (sym (append_assoc tree nodes later)) (own.filled (nodes ++ later) (nodes, later, refl, o, f));
       wide = λ place w. own.wide place (inr (nodes, o, subst (λ k. IsWideAmong qp laws left k place) (omega (arith, length-append tree nodes)) w));
-      ready = All-tail (IsOpen qp laws) piece left own.ready;
+      ready = All-tail (IsOpen qp laws borders) piece left own.ready;
     })
 
     pub refused_at : (error moved : TreeError) → IfWide error (IsWideIn qp laws piece 1) → IfWide moved (IsWideBehind (length tree) error) → IfWide moved (IsWideAmong qp laws pieces 1)
     refused_at error (Wide place) w b =
         let in_piece : IsWideIn qp laws piece 1 b.0 = subst (λ x. IfWide x (IsWideIn qp laws piece 1)) b.1 w in
-        own.wide place (inl (subst (IsWideIn qp laws piece (length tree + 1)) (sym b.2) (wide_in_behind (length tree) piece b.0 in_piece)))
+        own.wide place (inl (subst (IsWideIn qp laws piece (length tree + 1)) (sym b.2) (wide_in_behind qp laws (length tree) piece b.0 in_piece)))
     refused_at error NoMemory w b = tt
 
   pub joined_all : (pieces : List Piece) (tree new : List Node) (rest : List Piece) → IsJoined pieces tree rest → rest ≡ [] → new ≡ tree → AreFilled qp laws pieces new

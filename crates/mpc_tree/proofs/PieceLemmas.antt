@@ -12,17 +12,16 @@ use Rattle.mpc_rows.specs.declared.laws.Law.{Law}
 use Rattle.mpc_rows.specs.declared.places.Place.{Place}
 use Rattle.mpc_rows.specs.declared.trees.Node.{Node}
 use Rattle.mpc_rows.specs.declared.trees.Node.TheVariants.{Split}
-use Rattle.mpc_rows.specs.LawRows.{whole_row, broken_row}
 use Rattle.mpc_tree.specs.declared.errors.TreeError.{TreeError}
 use Rattle.mpc_tree.specs.declared.errors.TreeError.TheVariants.{Wide, NoMemory}
 use Rattle.mpc_tree.specs.declared.frontier.Piece.{Piece}
 use Rattle.mpc_tree.specs.declared.frontier.Piece.TheVariants.{Closed, Open, Refused}
-use Rattle.mpc_tree.specs.declared.runs.KeptCell.{KeptCell}
+use Rattle.mpc_tree.specs.declared.runs.OpenCell.{OpenCell}
 use Rattle.mpc_tree.specs.declared.threads.Drawn.{Drawn}
 use Rattle.mpc_tree.specs.Causes.{IfWide}
-use Rattle.mpc_tree.specs.Growth.{IsBuilt, IsLeafAt}
+use Rattle.mpc_tree.specs.Growth.{IsBuilt, IsLeafAt, cell_of}
 use Rattle.mpc_tree.specs.NodeRuns.{DividesAndFits, EndsAndFits, IsFittingTree}
-use Rattle.mpc_tree.specs.Pieces.{cell_at, EndsRefused, IsOpen, IsOfPiece, IsWideIn, AreFilled, IsWideAmong, IsFiner, Becomes, IsDrawn, with_drawn}
+use Rattle.mpc_tree.specs.Pieces.{EndsRefused, IsOpen, IsOfPiece, IsWideIn, AreFilled, IsWideAmong, IsFiner, Becomes, IsDrawn, with_drawn}
 use Rattle.mpc_tree.specs.Trees.{yes_side, no_side, leaf, split}
 use Rattle.mpc_tree.specs.WideRuns.{IsFirstWide, IsWideAt, here, in_yes, in_no}
 use Rattle.mpc_tree.proofs.Joining.{first_behind}
@@ -126,80 +125,74 @@ module _ (qp : Qp) (laws : List Law) where
       }))
 
   -- ---- a cell that is divided
-  module _ (kept : KeptCell) (next : ℕ) where
-    whole : (nodes : List Node) → IsBuilt qp laws (cell_at kept next) nodes → AreFilled qp laws (Open kept next ∷ []) nodes
+  module _ (parent : OpenCell) where
+    whole : (nodes : List Node) → IsBuilt qp laws (cell_of parent) nodes → AreFilled qp laws (Open parent ∷ []) nodes
     whole nodes b = (nodes, [], sym (append-nil nodes), b, refl)
 
-    pub of_whole : (nodes : List Node) → AreFilled qp laws (Open kept next ∷ []) nodes → IsBuilt qp laws (cell_at kept next) nodes
-    of_whole nodes f = alone (Open kept next) nodes f
+    pub of_whole : (nodes : List Node) → AreFilled qp laws (Open parent ∷ []) nodes → IsBuilt qp laws (cell_of parent) nodes
+    of_whole nodes f = alone (Open parent) nodes f
 
-    pub wide_whole : (pieces : List Piece) → IsFiner qp laws (Open kept next ∷ []) pieces → (tree : Result (List Node) TreeError) → IfErr tree (λ e. IfWide e (IsWideAmong qp laws pieces 1)) → IfErr tree (λ e. IfWide e (IsFirstWide qp laws (cell_at kept next) 1))
+    pub wide_whole : (pieces : List Piece) → IsFiner qp laws (Open parent ∷ []) pieces → (tree : Result (List Node) TreeError) → IfErr tree (λ e. IfWide e (IsWideAmong qp laws pieces 1)) → IfErr tree (λ e. IfWide e (IsFirstWide qp laws (cell_of parent) 1))
     wide_whole pieces g (Ok nodes) w = tt
-    wide_whole pieces g (Err (Wide place)) w = alone_wide (Open kept next) 1 place (g.wide 1 place w)
+    wide_whole pieces g (Err (Wide place)) w = alone_wide (Open parent) 1 place (g.wide 1 place w)
     wide_whole pieces g (Err NoMemory) w = tt
 
-    module _ (place : ℕ) (row : RowInt) (d : DividesAndFits qp laws (cell_at kept next) place row) (yes no : KeptCell) (y : yes.rows.items ≡ kept.rows.items ++ whole_row row ∷ []) (n : no.rows.items ≡ kept.rows.items ++ broken_row row ∷ []) where
-      yes_is : cell_at yes place ≡ yes_side (cell_at kept next) place row
-      yes_is = ap (λ rows. record { rows = rows; next = place }) y
-
-      no_is : cell_at no (place + 1) ≡ no_side (cell_at kept next) place row
-      no_is = ap (λ rows. record { rows = rows; next = place + 1 }) n
-
-      yes_built : (nodes : List Node) → IsBuilt qp laws (cell_at yes place) nodes → IsBuilt qp laws (yes_side (cell_at kept next) place row) nodes
+    module _ (place : ℕ) (row : RowInt) (d : DividesAndFits qp laws (cell_of parent) place row) (yes no : OpenCell) (yes_is : cell_of yes ≡ yes_side (cell_of parent) place row) (no_is : cell_of no ≡ no_side (cell_of parent) place row) where
+      yes_built : (nodes : List Node) → IsBuilt qp laws (cell_of yes) nodes → IsBuilt qp laws (yes_side (cell_of parent) place row) nodes
       yes_built nodes b = subst (λ c. IsBuilt qp laws c nodes) yes_is b
 
-      both : (nodes left right : List Node) → nodes ≡ Split row ∷ (left ++ right) → IsBuilt qp laws (cell_at yes place) left → IsBuilt qp laws (cell_at no (place + 1)) right → IsBuilt qp laws (cell_at kept next) nodes
-      both nodes left right e b c = subst (IsBuilt qp laws (cell_at kept next)) (sym e) (split (cell_at kept next) place row left right d (yes_built left b) (subst (λ c. IsBuilt qp laws c right) no_is c))
+      both : (nodes left right : List Node) → nodes ≡ Split row ∷ (left ++ right) → IsBuilt qp laws (cell_of yes) left → IsBuilt qp laws (cell_of no) right → IsBuilt qp laws (cell_of parent) nodes
+      both nodes left right e b c = subst (IsBuilt qp laws (cell_of parent)) (sym e) (split (cell_of parent) place row left right d (yes_built left b) (subst (λ c. IsBuilt qp laws c right) no_is c))
 
-      fits : (left : List Node) → IsBuilt qp laws (cell_at yes place) left → IsFittingTree qp laws (yes_side (cell_at kept next) place row) left
-      fits left b = weakened (DividesAndFits qp laws) (DividesAndFits qp laws) (IsLeafAt qp laws) (EndsAndFits qp laws) (λ c p r h. h) (λ c n h. h.ends) (yes_side (cell_at kept next) place row) left (yes_built left b)
+      fits : (left : List Node) → IsBuilt qp laws (cell_of yes) left → IsFittingTree qp laws (yes_side (cell_of parent) place row) left
+      fits left b = weakened (DividesAndFits qp laws) (DividesAndFits qp laws) (IsLeafAt qp laws) (EndsAndFits qp laws) (λ c p r h. h) (λ c n h. h.ends) (yes_side (cell_of parent) place row) left (yes_built left b)
 
-      split_filled : (nodes : List Node) → AreFilled qp laws (Closed (Split row ∷ []) ∷ Open yes place ∷ Open no (place + 1) ∷ []) nodes → AreFilled qp laws (Open kept next ∷ []) nodes
+      split_filled : (nodes : List Node) → AreFilled qp laws (Closed (Split row ∷ []) ∷ Open yes ∷ Open no ∷ []) nodes → AreFilled qp laws (Open parent ∷ []) nodes
       split_filled nodes f =
-          let right = alone (Open no (place + 1)) f.4.1 f.4.4 in
+          let right = alone (Open no) f.4.1 f.4.4 in
           whole nodes (both nodes f.4.0 f.4.1 (f.2 ∙ ap (λ l. l ++ f.1) f.3 ∙ ap (λ l. Split row ∷ l) f.4.2) f.4.3 right)
 
-      split_wide : (number : ℕ) (at : Place) → IsWideAmong qp laws (Closed (Split row ∷ []) ∷ Open yes place ∷ Open no (place + 1) ∷ []) number at → IsWideAmong qp laws (Open kept next ∷ []) number at
+      split_wide : (number : ℕ) (at : Place) → IsWideAmong qp laws (Closed (Split row ∷ []) ∷ Open yes ∷ Open no ∷ []) number at → IsWideAmong qp laws (Open parent ∷ []) number at
       split_wide number at (inl w) = absurd w
       split_wide number at (inr w) = by w.2
         where
           first : length w.0 ≡ 1
           first = ap length w.1
 
-          by : IsWideAmong qp laws (Open yes place ∷ Open no (place + 1) ∷ []) (number + length w.0) at → IsWideAmong qp laws (Open kept next ∷ []) number at
-          by (inl v) = inl (in_yes (cell_at kept next) number place row at d (subst (λ k. IsFirstWide qp laws (yes_side (cell_at kept next) place row) (number + k) at) first (subst (λ c. IsFirstWide qp laws c (number + length w.0) at) yes_is v)))
-          by (inr v) = inl (in_no (cell_at kept next) number place row v.0 at d (fits v.0 v.1)
-              (subst (λ k. IsFirstWide qp laws (no_side (cell_at kept next) place row) (number + k + length v.0) at) first
-              (subst (λ c. IsFirstWide qp laws c (number + length w.0 + length v.0) at) no_is (alone_wide (Open no (place + 1)) (number + length w.0 + length v.0) at v.2))))
+          by : IsWideAmong qp laws (Open yes ∷ Open no ∷ []) (number + length w.0) at → IsWideAmong qp laws (Open parent ∷ []) number at
+          by (inl v) = inl (in_yes (cell_of parent) number place row at d (subst (λ k. IsFirstWide qp laws (yes_side (cell_of parent) place row) (number + k) at) first (subst (λ c. IsFirstWide qp laws c (number + length w.0) at) yes_is v)))
+          by (inr v) = inl (in_no (cell_of parent) number place row v.0 at d (fits v.0 v.1)
+              (subst (λ k. IsFirstWide qp laws (no_side (cell_of parent) place row) (number + k + length v.0) at) first
+              (subst (λ c. IsFirstWide qp laws c (number + length w.0 + length v.0) at) no_is (alone_wide (Open no) (number + length w.0 + length v.0) at v.2))))
 
-      pub finer_split : IsFiner qp laws (Open kept next ∷ []) (Closed (Split row ∷ []) ∷ Open yes place ∷ Open no (place + 1) ∷ [])
+      pub finer_split : IsFiner qp laws (Open parent ∷ []) (Closed (Split row ∷ []) ∷ Open yes ∷ Open no ∷ [])
       finer_split = record { filled = split_filled; wide = split_wide }
 
   -- ---- cells that have become other pieces
-  pub tree_becomes : (kept : KeptCell) (next : ℕ) (tree : List Node) → IsBuilt qp laws (cell_at kept next) tree → Becomes qp laws (Open kept next) (Closed tree)
-  tree_becomes kept next tree b = record {
-    nodes = λ nodes e. subst (IsBuilt qp laws (cell_at kept next)) (sym e) b;
+  pub tree_becomes : (o : OpenCell) (tree : List Node) → IsBuilt qp laws (cell_of o) tree → Becomes qp laws (Open o) (Closed tree)
+  tree_becomes o tree b = record {
+    nodes = λ nodes e. subst (IsBuilt qp laws (cell_of o)) (sym e) b;
     wide = λ number place w. absurd w;
-    ready = λ o. tt;
+    left = λ own e. absurd (cc);
   }
 
-  pub leaf_becomes : (kept : KeptCell) (next : ℕ) (node : Node) → IsLeafAt qp laws (cell_at kept next) node → Becomes qp laws (Open kept next) (Closed (node ∷ []))
-  leaf_becomes kept next node l = tree_becomes kept next (node ∷ []) (leaf (cell_at kept next) node l)
+  pub leaf_becomes : (o : OpenCell) (node : Node) → IsLeafAt qp laws (cell_of o) node → Becomes qp laws (Open o) (Closed (node ∷ []))
+  leaf_becomes o node l = tree_becomes o (node ∷ []) (leaf (cell_of o) node l)
 
-  pub refusal_becomes : (kept : KeptCell) (next : ℕ) (own : Place) → IsFirstWide qp laws (cell_at kept next) 1 own → Becomes qp laws (Open kept next) (Refused own)
-  refusal_becomes kept next own w = record {
+  pub refusal_becomes : (o : OpenCell) (own : Place) → IsFirstWide qp laws (cell_of o) 1 own → Becomes qp laws (Open o) (Refused own)
+  refusal_becomes o own w = record {
     nodes = λ nodes f. absurd f;
     wide = λ number place v.
         let same : 1 + v.0 ≡ number = omega (arith, v.1) in
-        subst₂ (IsFirstWide qp laws (cell_at kept next)) same (sym v.2) (first_behind qp laws v.0 (cell_at kept next) 1 own w);
-    ready = λ o. tt;
+        subst₂ (IsFirstWide qp laws (cell_of o)) same (sym v.2) (first_behind qp laws v.0 (cell_of o) 1 own w);
+    left = λ own e. absurd (cc);
   }
 
-  pub node_refused : (kept : KeptCell) (next : ℕ) (own : Place) → IsWideAt qp laws (cell_at kept next) 1 own → Becomes qp laws (Open kept next) (Refused own)
-  node_refused kept next own w = refusal_becomes kept next own (here (cell_at kept next) 1 own w)
+  pub node_refused : (o : OpenCell) (own : Place) → IsWideAt qp laws (cell_of o) 1 own → Becomes qp laws (Open o) (Refused own)
+  node_refused o own w = refusal_becomes o own (here (cell_of o) 1 own w)
 
   becomes_same : (x : Piece) → Becomes qp laws x x
-  becomes_same x = record { nodes = λ nodes o. o; wide = λ number place w. w; ready = λ o. o }
+  becomes_same x = record { nodes = λ nodes o. o; wide = λ number place w. w; left = λ own e. e }
 
   abbrev pub AllBecome : List Piece → List Piece → Type 0
   AllBecome before now = AllZip (Becomes qp laws) before now
@@ -228,11 +221,17 @@ module _ (qp : Qp) (laws : List Law) where
   pub finer_one : (x y : Piece) → Becomes qp laws x y → IsFiner qp laws (x ∷ []) (y ∷ [])
   finer_one x y b = become_finer (x ∷ []) (y ∷ []) (b, tt)
 
-  pub become_open : (before now : List Piece) → AllBecome before now → All (IsOpen qp laws) before → All (IsOpen qp laws) now
-  become_open [] [] h o = o
-  become_open [] (y ∷ ys) h o = absurd h
-  become_open (x ∷ xs) [] h o = absurd h
-  become_open (x ∷ xs) (y ∷ ys) h o = All-cons (IsOpen qp laws) y ys (h.0.ready (All-head (IsOpen qp laws) x xs o)) (become_open xs ys h.1 (All-tail (IsOpen qp laws) x xs o))
+  still_open : (borders : List (List RowInt)) (x y : Piece) → Becomes qp laws x y → IsOpen qp laws borders x → IsOpen qp laws borders y
+  still_open borders x (Closed nodes) b h = tt
+  still_open borders x (Open o) b h = subst (IsOpen qp laws borders) (b.left o refl) h
+  still_open borders x (Refused place) b h = tt
+
+  pub become_open : (borders : List (List RowInt)) (before now : List Piece) → AllBecome before now → All (IsOpen qp laws borders) before → All (IsOpen qp laws borders) now
+  become_open borders [] [] h o = o
+  become_open borders [] (y ∷ ys) h o = absurd h
+  become_open borders (x ∷ xs) [] h o = absurd h
+  become_open borders (x ∷ xs) (y ∷ ys) h o =
+      All-cons (IsOpen qp laws borders) y ys (still_open borders x y h.0 (All-head (IsOpen qp laws borders) x xs o)) (become_open borders xs ys h.1 (All-tail (IsOpen qp laws borders) x xs o))
 
   laid_at : (before now : List Piece) (i : ℕ) (x y : Piece) → slice_get before i ≡ Some x → Becomes qp laws x y → AllBecome before now → AllBecome before (slice_set now i y)
   laid_at [] now i x y is b h = absurd (cc)

@@ -1,73 +1,65 @@
 -- A cell of the upper part of the tree that is divided, as the code has it.
-use Rattle.std.proofs.Common.{◌≡◌, ℕ, ◌+◌, List, get_or, [], ◌∷◌, ◌++◌, sym, ◌∙◌, ap, subst, subst₂, Option}
+use Rattle.std.proofs.Common.{◌≡◌, ℕ, List, get_or, [], ◌∷◌, ◌++◌, sym, ◌∙◌, ap, subst, subst₂, Option}
 use Rattle.std.specs.Prelude.{All}
 use Rattle.std.proofs.lemmas.List.Elements.{All-nil, All-cons}
 use Rattle.mpc_linear.specs.declared.integers.RowInt.{RowInt}
 use Rattle.mpc_rows.specs.declared.programs.Qp.{Qp}
 use Rattle.mpc_rows.specs.declared.laws.Law.{Law}
-use Rattle.mpc_rows.specs.declared.systems.Row.{Row}
 use Rattle.mpc_rows.specs.declared.trees.Node.TheVariants.{Split}
 use Rattle.mpc_rows.specs.LinearSystem.{LinearSystem}
 use Rattle.mpc_rows.specs.LawRows.{whole_row, broken_row}
 use Rattle.mpc_systems.specs.CellTheorems.{CellTheorems}
-use Rattle.mpc_systems.specs.Writing.{HasBoxWidth}
 use Rattle.mpc_tree.specs.declared.frontier.Piece.{Piece}
 use Rattle.mpc_tree.specs.declared.frontier.Piece.TheVariants.{Closed, Open}
-use Rattle.mpc_tree.specs.declared.runs.KeptCell.{KeptCell}
+use Rattle.mpc_tree.specs.declared.runs.OpenCell.{OpenCell}
 use Rattle.mpc_tree.specs.Borders.{AreBorders}
 use Rattle.mpc_tree.specs.CellRuns.{IsRunOf}
-use Rattle.mpc_tree.specs.Growth.{IsReady, IsSplitAt}
-use Rattle.mpc_tree.specs.NodeRuns.{DividesAndFits}
-use Rattle.mpc_tree.specs.Pieces.{cell_at, AreSides, IsOpen, IsFiner}
-use Rattle.mpc_tree.specs.Trees.{Cell, yes_side, no_side}
+use Rattle.mpc_tree.specs.Growth.{IsOpenCell, IsReady, IsSplitAt, cell_of}
+use Rattle.mpc_tree.specs.Missed.{AreMissed}
+use Rattle.mpc_tree.specs.Pieces.{AreSides, IsOpen, IsFiner}
+use Rattle.mpc_tree.specs.Trees.{Cell}
 use Rattle.mpc_tree.proofs.CellRuns.{narrowed}
 use Rattle.mpc_tree.proofs.Dividing.{yes_ready, no_ready, rows_read, row_read}
+use Rattle.mpc_tree.proofs.MissedLaws.{missed_longer}
 use Rattle.mpc_tree.proofs.PieceLemmas.{finer_between, finer_split}
 
-module _ (qp : Qp) (laws : List Law) (borders : List (List RowInt)) (are : AreBorders qp laws borders) (cell : Cell) (place i : ℕ) (s : IsSplitAt qp laws borders cell place i) (row : RowInt) (same : row ≡ s.row) where
-  -- what holds of the cells of the sides holds of those with the rows that the code has
-  on_yes : (P : Cell → Type 0) (rows : List Row) → rows ≡ cell.rows ++ whole_row row ∷ [] → P (yes_side cell place s.row) → P (record { rows = rows; next = place })
-  on_yes P rows e h = subst (λ x. P (record { rows = x; next = place })) (sym (e ∙ ap (λ r. cell.rows ++ whole_row r ∷ []) same)) h
+module _ (qp : Qp) (laws : List Law) (borders : List (List RowInt)) (are : AreBorders qp laws borders) (parent : OpenCell) (place i : ℕ) (s : IsSplitAt qp laws borders (cell_of parent) place i) (row : RowInt) (same : row ≡ s.row) (broken : Option LinearSystem) (pieces : List Piece) (p : AreSides parent row broken place pieces) where
+  abbrev q : AreSides parent s.row broken place pieces
+  q = subst (λ r. AreSides parent r broken place pieces) same p
 
-  on_no : (P : Cell → Type 0) (rows : List Row) → rows ≡ cell.rows ++ broken_row row ∷ [] → P (no_side cell place s.row) → P (record { rows = rows; next = place + 1 })
-  on_no P rows e h = subst (λ x. P (record { rows = x; next = place + 1 })) (sym (e ∙ ap (λ r. cell.rows ++ broken_row r ∷ []) same)) h
+  module _ (o : IsOpenCell qp laws borders parent) where
+    yes_open : IsOpenCell qp laws borders q.yes
+    yes_open =
+        let rows : q.yes.cell.rows.items ≡ parent.cell.rows.items ++ whole_row s.row ∷ [] = ap (λ (c : Cell). c.rows) q.yes_cell in
+        record {
+          ready = subst (IsReady qp laws) (sym q.yes_cell) (yes_ready qp laws borders are (cell_of parent) place i s o.ready.width);
+          run = subst (λ x. IsRunOf qp x q.yes.cell.run) (sym rows) (narrowed qp parent.cell.rows.items parent.cell.run o.run (whole_row s.row) q.yes.cell.run q.yes_run);
+          missed = subst (AreMissed qp borders q.yes.cell.rows.items) (sym q.yes_missed) (missed_longer qp borders parent.cell.rows.items parent.missed o.missed (whole_row s.row) q.yes.cell.rows.items rows);
+        }
 
-  pub ready_yes : (rows : List Row) → rows ≡ cell.rows ++ whole_row row ∷ [] → HasBoxWidth qp cell.rows → IsReady qp laws (record { rows = rows; next = place })
-  ready_yes rows e w = on_yes (IsReady qp laws) rows e (yes_ready qp laws borders are cell place i s w)
+    no_open : CellTheorems → IsRunOf qp (parent.cell.rows.items ++ broken_row s.row ∷ []) broken → IsOpenCell qp laws borders q.no
+    no_open points fails =
+        let rows : q.no.cell.rows.items ≡ parent.cell.rows.items ++ broken_row s.row ∷ [] = ap (λ (c : Cell). c.rows) q.no_cell in
+        record {
+          ready = subst (IsReady qp laws) (sym q.no_cell) (no_ready qp laws borders are (cell_of parent) place i s points o.ready.width);
+          run = subst₂ (IsRunOf qp) (sym rows) (sym q.no_run) fails;
+          missed = subst (AreMissed qp borders q.no.cell.rows.items) (sym q.no_missed) (missed_longer qp borders parent.cell.rows.items parent.missed o.missed (broken_row s.row) q.no.cell.rows.items rows);
+        }
 
-  pub ready_no : (rows : List Row) → rows ≡ cell.rows ++ broken_row row ∷ [] → CellTheorems → HasBoxWidth qp cell.rows → IsReady qp laws (record { rows = rows; next = place + 1 })
-  ready_no rows e points w = on_no (IsReady qp laws) rows e (no_ready qp laws borders are cell place i s points w)
+    pub split_open : CellTheorems → IsRunOf qp (parent.cell.rows.items ++ broken_row s.row ∷ []) broken → All (IsOpen qp laws borders) pieces
+    split_open points fails = subst (All (IsOpen qp laws borders)) (sym q.are)
+        (All-cons (IsOpen qp laws borders) (Closed (Split s.row ∷ [])) (Open q.yes ∷ Open q.no ∷ []) tt (All-cons (IsOpen qp laws borders) (Open q.yes) (Open q.no ∷ []) yes_open (All-cons (IsOpen qp laws borders) (Open q.no) [] (no_open points fails) (All-nil (IsOpen qp laws borders)))))
 
-  -- the no side has the run of where the row fails
-  pub run_no : (broken run : Option LinearSystem) → IsRunOf qp (cell.rows ++ broken_row s.row ∷ []) broken → (rows : List Row) → rows ≡ cell.rows ++ broken_row row ∷ [] → run ≡ broken → IsRunOf qp rows run
-  run_no broken run h rows e r = subst₂ (IsRunOf qp) (sym (e ∙ ap (λ z. cell.rows ++ broken_row z ∷ []) same)) (sym r) h
-
--- ---- the pieces
-module _ (qp : Qp) (laws : List Law) (borders : List (List RowInt)) (are : AreBorders qp laws borders) (kept : KeptCell) (next place i : ℕ) (s : IsSplitAt qp laws borders (cell_at kept next) place i) (row : RowInt) (same : row ≡ s.row) (broken : Option LinearSystem) (pieces : List Piece) (p : AreSides kept row broken place pieces) where
-  pub split_open : CellTheorems → IsReady qp laws (cell_at kept next) → IsRunOf qp kept.rows.items kept.run → IsRunOf qp (kept.rows.items ++ broken_row s.row ∷ []) broken → All (IsOpen qp laws) pieces
-  split_open points ready run fails =
-      let yes : IsOpen qp laws (Open p.yes place) = (
-        ready_yes qp laws borders are (cell_at kept next) place i s row same p.yes.rows.items p.yes_rows ready.width,
-        subst (λ rows. IsRunOf qp rows p.yes.run) (sym p.yes_rows) (narrowed qp kept.rows.items kept.run run (whole_row row) p.yes.run p.yes_run),
-      ) in
-      let no : IsOpen qp laws (Open p.no (place + 1)) = (
-        ready_no qp laws borders are (cell_at kept next) place i s row same p.no.rows.items p.no_rows points ready.width,
-        run_no qp laws borders are (cell_at kept next) place i s row same broken p.no.run fails p.no.rows.items p.no_rows p.no_run,
-      ) in
-      subst (All (IsOpen qp laws)) (sym p.are) (All-cons (IsOpen qp laws) (Closed (Split row ∷ [])) (Open p.yes place ∷ Open p.no (place + 1) ∷ []) tt (All-cons (IsOpen qp laws) (Open p.yes place) (Open p.no (place + 1) ∷ []) yes (All-cons (IsOpen qp laws) (Open p.no (place + 1)) [] no (All-nil (IsOpen qp laws)))))
-
-  pub split_finer : IsFiner qp laws (Open kept next ∷ []) pieces
-  split_finer = subst (IsFiner qp laws (Open kept next ∷ [])) (sym p.are)
-      (finer_split qp laws kept next place row (subst (DividesAndFits qp laws (cell_at kept next) place) (sym same) s.divides) p.yes p.no p.yes_rows p.no_rows)
+  pub split_finer : IsFiner qp laws (Open parent ∷ []) pieces
+  split_finer = subst (IsFiner qp laws (Open parent ∷ [])) (sym q.are) (finer_split qp laws parent place s.row s.divides q.yes q.no q.yes_cell q.no_cell)
 
 -- the row, as it is read
 pub same_row : (qp : Qp) (laws : List Law) (borders : List (List RowInt)) (are : AreBorders qp laws borders) (cell : Cell) (place i : ℕ) (s : IsSplitAt qp laws borders cell place i) (border slice : List RowInt) (row : RowInt) → border ≡ get_or borders place border → slice ≡ border → row ≡ get_or slice i row → row ≡ s.row
 same_row qp laws borders are cell place i s border slice row b e r = row_read qp laws borders are cell place i s slice row (rows_read qp laws borders are cell place i s border slice b e) r
 
 -- ---- a cell that isn't divided
-module _ (qp : Qp) (laws : List Law) (pieces : List Piece) (piece : Piece) (p : pieces ≡ piece ∷ []) where
-  pub one_open : IsOpen qp laws piece → All (IsOpen qp laws) pieces
-  one_open o = subst (All (IsOpen qp laws)) (sym p) (All-cons (IsOpen qp laws) piece [] o (All-nil (IsOpen qp laws)))
+pub one_open : (qp : Qp) (laws : List Law) (borders : List (List RowInt)) (pieces : List Piece) (piece : Piece) → pieces ≡ piece ∷ [] → IsOpen qp laws borders piece → All (IsOpen qp laws borders) pieces
+one_open qp laws borders pieces piece p o = subst (All (IsOpen qp laws borders)) (sym p) (All-cons (IsOpen qp laws borders) piece [] o (All-nil (IsOpen qp laws borders)))
 
 -- ---- lists of pieces, as they are pushed
 pub three : (e a b all : List Piece) (x y z : Piece) → e ≡ [] → a ≡ e ++ x ∷ [] → b ≡ a ++ y ∷ [] → all ≡ b ++ z ∷ [] → all ≡ x ∷ (y ∷ (z ∷ []))

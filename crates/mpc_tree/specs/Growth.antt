@@ -19,9 +19,11 @@ use Rattle.mpc_tree.specs.declared.nodes.Held.TheVariants.{Fails, Holds}
 use Rattle.mpc_tree.specs.declared.nodes.Met.{Met}
 use Rattle.mpc_tree.specs.declared.nodes.Placed.{Placed}
 use Rattle.mpc_tree.specs.declared.nodes.Placed.TheVariants.{Split, Leaf}
+use Rattle.mpc_tree.specs.declared.runs.OpenCell.{OpenCell}
 use Rattle.mpc_tree.specs.CellRuns.{IsRunOf}
 use Rattle.mpc_tree.specs.Cells.{RegionMeets, NoneMeetsBefore, IsFirstToMeet, FailsOn, NoneFailsBefore}
 use Rattle.mpc_tree.specs.LeafCerts.{AreCertsOf, HasItsCerts}
+use Rattle.mpc_tree.specs.Missed.{AreMissed}
 use Rattle.mpc_tree.specs.NodeRuns.{MeetsFit, HoldsFit, DividesAndFits, EndsAndFits}
 use Rattle.mpc_tree.specs.Trees.{Cell, IsTreeWhere}
 use Rattle.mpc_tree.specs.WideRuns.{IsWideHold}
@@ -31,6 +33,16 @@ pub record IsReady (qp : Qp) (laws : List Law) (cell : Cell) : Type 0 where
   pub width : HasBoxWidth qp cell.rows
   pub none : NoneMeetsBefore qp laws cell.rows cell.next
   pub within : cell.next ≤ length laws
+
+-- the cell, as its search goes on
+abbrev pub cell_of : OpenCell → Cell
+cell_of o = record { rows = o.cell.rows.items; next = o.next }
+
+-- it is ready, and its run and its table are its own
+pub record IsOpenCell (qp : Qp) (laws : List Law) (borders : List (List RowInt)) (o : OpenCell) : Type 0 where
+  pub ready : IsReady qp laws (cell_of o)
+  pub run : IsRunOf qp o.cell.rows.items o.cell.run
+  pub missed : AreMissed qp borders o.cell.rows.items o.missed
 
 -- each state with admissible unknowns lies in the region of one of the laws
 pub record RegionsCover (qp : Qp) (laws : List Law) : Type 0 where

@@ -9,48 +9,46 @@ use Rattle.mpc_rows.specs.declared.places.Place.{Place}
 use Rattle.mpc_rows.specs.declared.trees.Node.{Node}
 use Rattle.mpc_rows.specs.declared.trees.Node.TheVariants.{Split}
 use Rattle.mpc_rows.specs.LinearSystem.{LinearSystem}
-use Rattle.mpc_rows.specs.LawRows.{whole_row, broken_row}
+use Rattle.mpc_rows.specs.LawRows.{whole_row}
 use Rattle.mpc_tree.specs.declared.frontier.Piece.{Piece}
 use Rattle.mpc_tree.specs.declared.frontier.Piece.TheVariants.{Closed, Open, Refused}
-use Rattle.mpc_tree.specs.declared.runs.KeptCell.{KeptCell}
+use Rattle.mpc_tree.specs.declared.runs.OpenCell.{OpenCell}
 use Rattle.mpc_tree.specs.declared.threads.Drawn.{Drawn}
-use Rattle.mpc_tree.specs.CellRuns.{IsRunOf, IsRunWith}
-use Rattle.mpc_tree.specs.Growth.{IsReady, IsBuilt}
+use Rattle.mpc_tree.specs.CellRuns.{IsRunWith}
+use Rattle.mpc_tree.specs.Growth.{IsOpenCell, IsBuilt, cell_of}
 use Rattle.mpc_tree.specs.Joins.{place_behind}
-use Rattle.mpc_tree.specs.Trees.{Cell}
+use Rattle.mpc_tree.specs.Trees.{yes_side, no_side}
 use Rattle.mpc_tree.specs.WideRuns.{IsFirstWide}
 
--- the cell, as its search goes on
-abbrev pub cell_at : KeptCell → ℕ → Cell
-cell_at cell next = record { rows = cell.rows.items; next = next }
-
 -- the pieces are the split by the row of the law at this place, and the cells of its sides, the no side with this run
-pub record AreSides (cell : KeptCell) (row : RowInt) (broken : Option LinearSystem) (place : ℕ) (pieces : List Piece) : Type 0 where
-  pub yes : KeptCell
-  pub no : KeptCell
-  pub are : pieces ≡ Closed (Split row ∷ []) ∷ (Open yes place ∷ (Open no (place + 1) ∷ []))
-  pub yes_rows : yes.rows.items ≡ cell.rows.items ++ whole_row row ∷ []
-  pub yes_run : IsRunWith cell.run (whole_row row) yes.run
-  pub no_rows : no.rows.items ≡ cell.rows.items ++ broken_row row ∷ []
-  pub no_run : no.run ≡ broken
+pub record AreSides (parent : OpenCell) (row : RowInt) (broken : Option LinearSystem) (place : ℕ) (pieces : List Piece) : Type 0 where
+  pub yes : OpenCell
+  pub no : OpenCell
+  pub are : pieces ≡ Closed (Split row ∷ []) ∷ (Open yes ∷ (Open no ∷ []))
+  pub yes_cell : cell_of yes ≡ yes_side (cell_of parent) place row
+  pub yes_run : IsRunWith parent.cell.run (whole_row row) yes.cell.run
+  pub yes_missed : yes.missed ≡ parent.missed
+  pub no_cell : cell_of no ≡ no_side (cell_of parent) place row
+  pub no_run : no.cell.run ≡ broken
+  pub no_missed : no.missed ≡ parent.missed
 
 module _ (qp : Qp) (laws : List Law) where
   -- if the piece is a cell, its search may begin
-  abbrev pub IsOpen : Piece → Type 0
-  IsOpen (Closed nodes) = ⊤
-  IsOpen (Open cell next) = IsReady qp laws (cell_at cell next) × IsRunOf qp cell.rows.items cell.run
-  IsOpen (Refused place) = ⊤
+  abbrev pub IsOpen : List (List RowInt) → Piece → Type 0
+  IsOpen borders (Closed nodes) = ⊤
+  IsOpen borders (Open o) = IsOpenCell qp laws borders o
+  IsOpen borders (Refused place) = ⊤
 
   -- the nodes that stand for a piece, none for a cell that is refused
   abbrev pub IsOfPiece : Piece → List Node → Type 0
   IsOfPiece (Closed own) nodes = nodes ≡ own
-  IsOfPiece (Open cell next) nodes = IsBuilt qp laws (cell_at cell next) nodes
+  IsOfPiece (Open o) nodes = IsBuilt qp laws (cell_of o) nodes
   IsOfPiece (Refused own) nodes = ⊥
 
   -- the place is the first wide one of a piece whose first node has this number
   abbrev pub IsWideIn : Piece → ℕ → Place → Type 0
   IsWideIn (Closed own) number place = ⊥
-  IsWideIn (Open cell next) number place = IsFirstWide qp laws (cell_at cell next) number place
+  IsWideIn (Open o) number place = IsFirstWide qp laws (cell_of o) number place
   IsWideIn (Refused own) number place = (before : ℕ) × (number ≡ before + 1) × (place ≡ place_behind before own)
 
   -- the nodes are those of the pieces, one after the other
@@ -68,11 +66,11 @@ module _ (qp : Qp) (laws : List Law) where
     pub filled : (nodes : List Node) → AreFilled finer nodes → AreFilled pieces nodes
     pub wide : (number : ℕ) (place : Place) → IsWideAmong finer number place → IsWideAmong pieces number place
 
-  -- what the second piece says of a tree, the first one says of it
+  -- what the second piece says of a tree, the first one says of it; a cell that is still open is that cell
   pub record Becomes (x y : Piece) : Type 0 where
     pub nodes : (nodes : List Node) → IsOfPiece y nodes → IsOfPiece x nodes
     pub wide : (number : ℕ) (place : Place) → IsWideIn y number place → IsWideIn x number place
-    pub ready : IsOpen x → IsOpen y
+    pub left : (o : OpenCell) → y ≡ Open o → x ≡ Open o
 
   -- the piece at this place among the pieces has become another
   pub record IsDrawn (pieces : List Piece) (d : Drawn) : Type 0 where

@@ -3,15 +3,14 @@
 ghost use Rattle.std.specs.Prelude.{◌≡◌, ◌<◌, ◌≤◌, ◌^◌, ◌∷◌, [], All, IfOk, IfSome, IsTrue, length, unsigned_abs};
 ghost use Rattle.mpc_linear.specs.Whole.{AreSmall};
 ghost use Rattle.mpc_tree.specs.Borders.{AreBorders};
-ghost use Rattle.mpc_tree.specs.CellRuns.{IsRunOf};
-ghost use Rattle.mpc_tree.specs.Growth.{IsReady, RegionsCover};
+ghost use Rattle.mpc_tree.specs.Growth.{IsOpenCell, RegionsCover};
 ghost use Rattle.mpc_tree.specs.Pieces.{AreSides, AreJoined, EndsRefused, IsOpen, IsFiner, all_of};
 
 use crate::borders::Border;
 use crate::errors::TreeError;
 use crate::missed::{Missed, Search};
 use crate::nodes::{Placed, Visit, place_node};
-use crate::runs::{KeptCell, copied_rows};
+use crate::runs::{KeptCell, OpenCell, copied_rows};
 use crate::threads::Grow;
 use mpc_frac::NoMemory;
 use mpc_linear::RowInt;
@@ -19,6 +18,7 @@ use mpc_rows::{LawTable, Node, Place, Qp, Tree};
 use mpc_simplex::Beginning;
 use mpc_systems::{broken_row, cell_theorems, whole_row};
 use std::alloc::Global;
+use std::mem::swap;
 
 /// How many open cells are enough: of fewer, one may take most of the time on four threads, and more would leave
 /// more of the tree to rounds, each of which takes as long as its slowest group.
@@ -36,8 +36,8 @@ const MOST_ROUNDS: usize = 52;
 pub enum Piece {
     /// Neighbouring nodes.
     Closed(Tree),
-    /// A cell whose tree isn't built, and the place of the law with which its search goes on.
-    Open { cell: KeptCell, next: usize },
+    /// A cell whose tree isn't built.
+    Open(OpenCell),
     /// A cell whose tree is refused at this place, its nodes numbered from 1.
     Refused(Place),
 }
@@ -61,67 +61,67 @@ fn closed(alloc: Global, node: Node) -> Result<Piece, NoMemory>
 }
 
 /// A cell that is divided by a row of the law at this place: the split and both sides, each with rows
-/// of its own, the no side with the run of where the row fails.
+/// and a table of its own, the no side with the run of where the row fails. What is known of the laws that
+/// the cell misses is known of both sides, since they begin with its rows.
 fn split(
     alloc: Global,
-    cell: KeptCell,
+    parent: OpenCell,
     row: &RowInt,
     broken: Option<Beginning>,
     place: usize,
 ) -> Result<Vec<Piece>, NoMemory>
     requires small { AreSmall row.now.a }
     requires b_small { unsigned_abs row.now.b < 2 ^ 127 }
-    requires width { IfSome cell.run (λ run. length row.now.a ≡ run.width) }
+    requires width { IfSome parent.cell.run (λ run. length row.now.a ≡ run.width) }
     requires room { place < 2 ^ 32 }
-    ensures { IfOk result (λ pieces. AreSides cell row.now broken place pieces.items) }
+    ensures { IfOk result (λ pieces. AreSides parent row.now broken place pieces.items) }
 {
-    let mut rows = copied_rows(alloc, &cell.rows)?;
+    let mut rows = copied_rows(alloc, &parent.cell.rows)?;
     rows.push(broken_row(alloc, row)?)?;
-    let no = KeptCell { rows, run: broken };
-    let mut yes = cell;
-    yes.narrow(alloc, whole_row(alloc, row)?)?;
+    let no = OpenCell {
+        cell: KeptCell { rows, run: broken },
+        next: place + 1,
+        missed: parent.missed.copy(alloc)?,
+    };
+    let mut yes = parent;
+    yes.cell.narrow(alloc, whole_row(alloc, row)?)?;
+    yes.next = place;
     let mut pieces = Vec::with_capacity(alloc, 3)?;
     pieces.push(closed(alloc, Node::Split(row.copy(alloc)?))?)?;
-    pieces.push(Piece::Open {
-        cell: yes,
-        next: place,
-    })?;
-    pieces.push(Piece::Open {
-        cell: no,
-        next: place + 1,
-    })?;
+    pieces.push(Piece::Open(yes))?;
+    pieces.push(Piece::Open(no))?;
     Ok(pieces)
 }
 
-/// The pieces that a cell is divided into: a leaf, a split with both sides open, or a refusal.
+/// The pieces that a cell is divided into: a leaf, a split with both sides open, or a refusal. The search
+/// is lent the cell's table, and what it leaves there is that of the sides.
 fn divided_cell(
     alloc: Global,
     kept: &mut Search,
     qp: &Qp,
     laws: &LawTable,
     borders: &[Border],
-    cell: KeptCell,
-    next: usize,
+    mut parent: OpenCell,
 ) -> Result<Vec<Piece>, NoMemory>
     requires few { length laws.now < 2 ^ 32 }
     requires borders { AreBorders qp.now laws.now borders.now }
     requires cover { RegionsCover qp.now laws.now }
-    requires ready { IsReady qp.now laws.now (record { rows = cell.rows.items; next = next }) }
-    requires run { IsRunOf qp.now cell.rows.items cell.run }
-    ensures open { IfOk result (λ pieces. All (IsOpen qp.now laws.now) pieces.items) }
-    ensures finer { IfOk result (λ pieces. IsFiner qp.now laws.now (Piece.Open cell next ∷ []) pieces.items) }
+    requires parent { IsOpenCell qp.now laws.now borders.now parent }
+    ensures open { IfOk result (λ pieces. All (IsOpen qp.now laws.now borders.now) pieces.items) }
+    ensures finer { IfOk result (λ pieces. IsFiner qp.now laws.now (Piece.Open parent ∷ []) pieces.items) }
 {
     cell_theorems();
-    kept.missed = Missed::new(alloc, 0)?;
+    swap(&mut kept.missed, &mut parent.missed);
     let at = Visit {
-        next,
+        next: parent.next,
         held: 0,
         node: 1,
     };
-    match place_node(alloc, kept, qp, laws, borders, &cell, at) {
+    match place_node(alloc, kept, qp, laws, borders, &parent.cell, at) {
         Ok(Placed::Split { place, row, run }) => {
+            swap(&mut kept.missed, &mut parent.missed);
             let row = &borders[place].as_slice()[row];
-            split(alloc, cell, row, run, place)
+            split(alloc, parent, row, run, place)
         }
         Ok(Placed::Leaf(leaf)) => one(alloc, closed(alloc, leaf)?),
         Err(TreeError::Wide(place)) => one(alloc, Piece::Refused(place)),
@@ -153,17 +153,17 @@ fn divided(
     requires few { length laws.now < 2 ^ 32 }
     requires borders { AreBorders qp.now laws.now borders.now }
     requires cover { RegionsCover qp.now laws.now }
-    requires open { IsOpen qp.now laws.now piece }
-    ensures open { IfOk result (λ pieces. All (IsOpen qp.now laws.now) pieces.items) }
+    requires open { IsOpen qp.now laws.now borders.now piece }
+    ensures open { IfOk result (λ pieces. All (IsOpen qp.now laws.now borders.now) pieces.items) }
     ensures finer { IfOk result (λ pieces. IsFiner qp.now laws.now (piece ∷ []) pieces.items) }
 {
     if *left == 0 {
         return one(alloc, piece);
     }
     match piece {
-        Piece::Open { cell, next } => {
+        Piece::Open(parent) => {
             *left -= 1;
-            divided_cell(alloc, kept, qp, laws, borders, cell, next)
+            divided_cell(alloc, kept, qp, laws, borders, parent)
         }
         other => one(alloc, other),
     }
@@ -183,8 +183,8 @@ fn finer(
     requires few { length laws.now < 2 ^ 32 }
     requires borders { AreBorders qp.now laws.now borders.now }
     requires cover { RegionsCover qp.now laws.now }
-    requires open { All (IsOpen qp.now laws.now) pieces.items }
-    ensures open { IfOk result (λ finer. All (IsOpen qp.now laws.now) finer.items) }
+    requires open { All (IsOpen qp.now laws.now borders.now) pieces.items }
+    ensures open { IfOk result (λ finer. All (IsOpen qp.now laws.now borders.now) finer.items) }
     ensures finer { IfOk result (λ finer. IsFiner qp.now laws.now pieces.items finer.items) }
 {
     let mut finer = Vec::new(alloc);
@@ -210,18 +210,18 @@ pub fn all_divided(
     requires few { length laws.now < 2 ^ 32 }
     requires borders { AreBorders qp.now laws.now borders.now }
     requires cover { RegionsCover qp.now laws.now }
-    requires open { All (IsOpen qp.now laws.now) pieces.items }
-    ensures open { IfOk result (λ finer. All (IsOpen qp.now laws.now) finer.items) }
+    requires open { All (IsOpen qp.now laws.now borders.now) pieces.items }
+    ensures open { IfOk result (λ finer. All (IsOpen qp.now laws.now borders.now) finer.items) }
     ensures finer { IfOk result (λ finer. IsFiner qp.now laws.now pieces.items finer.items) }
 {
-    let mut kept = Search::new(alloc, 0)?;
+    let mut kept = Search::new(alloc, Missed::new(alloc, 0)?);
     finer(alloc, &mut kept, qp, laws, borders, pieces, usize::MAX)
 }
 
 /// Whether the piece is an open cell.
 fn is_open(piece: &Piece) -> bool {
     match piece {
-        Piece::Open { .. } => true,
+        Piece::Open(_) => true,
         _ => false,
     }
 }
@@ -286,28 +286,26 @@ pub fn joined_groups(
     Ok(pieces)
 }
 
-/// The tree of the cell in pieces, as far as the first cell that is refused: divided in preorder by the
-/// caller at first, and then breadth-first, until enough cells are open, or none.
+/// The tree of an open cell in pieces, as far as the first cell that is refused: divided in preorder by
+/// the caller at first, and then breadth-first, until enough cells are open, or none.
 pub fn pieces_of<G: Grow>(
     by: &G,
     alloc: Global,
     qp: &Qp,
     laws: &LawTable,
     borders: &[Border],
-    cell: KeptCell,
-    next: usize,
+    root: OpenCell,
 ) -> Result<Vec<Piece>, NoMemory>
     requires few { length laws.now < 2 ^ 32 }
     requires borders { AreBorders qp.now laws.now borders.now }
     requires cover { RegionsCover qp.now laws.now }
-    requires ready { IsReady qp.now laws.now (record { rows = cell.rows.items; next = next }) }
-    requires run { IsRunOf qp.now cell.rows.items cell.run }
-    ensures open { IfOk result (λ pieces. All (IsOpen qp.now laws.now) pieces.items) }
-    ensures finer { IfOk result (λ pieces. IsFiner qp.now laws.now (Piece.Open cell next ∷ []) pieces.items) }
+    requires root { IsOpenCell qp.now laws.now borders.now root }
+    ensures open { IfOk result (λ pieces. All (IsOpen qp.now laws.now borders.now) pieces.items) }
+    ensures finer { IfOk result (λ pieces. IsFiner qp.now laws.now (Piece.Open root ∷ []) pieces.items) }
 {
-    let mut kept = Search::new(alloc, 0)?;
+    let mut kept = Search::new(alloc, Missed::new(alloc, 0)?);
     let mut pieces = Vec::new(alloc);
-    pieces.push(Piece::Open { cell, next })?;
+    pieces.push(Piece::Open(root))?;
     for round in 0..MOST_ROUNDS {
         let open = open_cells(&pieces);
         if open == 0 || ENOUGH <= open {

@@ -5,8 +5,8 @@ ghost use Rattle.mpc_linear.specs.Whole.{AreSmall};
 ghost use Rattle.mpc_rows.specs.LawRows.{whole_row, broken_row};
 ghost use Rattle.mpc_tree.specs.Borders.{AreBorders};
 ghost use Rattle.mpc_tree.specs.Causes.{IfWide, IfRefused, IfGivenUp};
-ghost use Rattle.mpc_tree.specs.CellRuns.{IsRunOf, IsRunWith};
-ghost use Rattle.mpc_tree.specs.Growth.{IsReady, RegionsCover, IsBuilt};
+ghost use Rattle.mpc_tree.specs.CellRuns.{IsRunWith};
+ghost use Rattle.mpc_tree.specs.Growth.{IsOpenCell, RegionsCover, IsBuilt, cell_of};
 ghost use Rattle.mpc_tree.specs.WideRuns.{IsFirstWide};
 
 use crate::borders::Border;
@@ -14,7 +14,7 @@ use crate::errors::{Stop, TreeError};
 use crate::missed::Search;
 use crate::nodes::{Placed, Visit, place_node};
 use crate::refusals::{Watch, is_called_off};
-use crate::runs::KeptCell;
+use crate::runs::{KeptCell, OpenCell};
 use mpc_frac::NoMemory;
 use mpc_linear::RowInt;
 use mpc_rows::{LawTable, Node, Qp, Row, Tree};
@@ -88,9 +88,9 @@ fn enter(cell: &mut KeptCell, side: OpenSide) -> Result<usize, NoMemory>
     Ok(next)
 }
 
-/// The tree of the cell with these rows, whose search goes on with the next law, node by node in
-/// preorder; the no sides that are still to come lie on a stack. `Wide` numbers the nodes from 1.
-/// A tree that is watched is given up once it is called off. Its list has no more room than its nodes need.
+/// The tree of an open cell, node by node in preorder; the no sides that are still to come lie on a
+/// stack. `Wide` numbers the nodes from 1. A tree that is watched is given up once it is called off. Its
+/// list has no more room than its nodes need.
 ///
 /// `held` counts first rows of the next law that hold on the cell since the search was split by the last of
 /// them: the next split is by a later one, so the search ends. Where there are any, the law is known to meet the cell.
@@ -99,23 +99,26 @@ pub fn grown(
     qp: &Qp,
     laws: &LawTable,
     borders: &[Border],
-    mut cell: KeptCell,
-    mut next: usize,
+    root: OpenCell,
     watch: Option<Watch>,
 ) -> Result<Tree, Stop>
     requires few { length laws.now < 2 ^ 32 }
     requires borders { AreBorders qp.now laws.now borders.now }
     requires cover { RegionsCover qp.now laws.now }
-    requires ready { IsReady qp.now laws.now (record { rows = cell.rows.items; next = next }) }
-    requires run { IsRunOf qp.now cell.rows.items cell.run }
-    ensures built { IfOk result (λ nodes. IsBuilt qp.now laws.now (record { rows = cell.rows.items; next = next }) nodes) }
-    ensures wide { IfErr result (λ e. IfRefused e (IsFirstWide qp.now laws.now (record { rows = cell.rows.items; next = next }) 1)) }
+    requires root { IsOpenCell qp.now laws.now borders.now root }
+    ensures built { IfOk result (IsBuilt qp.now laws.now (cell_of root)) }
+    ensures wide { IfErr result (λ e. IfRefused e (IsFirstWide qp.now laws.now (cell_of root) 1)) }
     ensures given_up { IfErr result (λ e. IfGivenUp e (IsSome watch.entry)) }
 {
     cell_theorems();
     let mut tree = Tree::new(alloc);
     let mut sides = Vec::new(alloc);
-    let mut kept = Search::new(alloc, borders.len())?;
+    let OpenCell {
+        mut cell,
+        mut next,
+        missed,
+    } = root;
+    let mut kept = Search::new(alloc, missed);
     let mut held = 0;
     'nodes: loop {
         if is_called_off(&watch) {
@@ -157,18 +160,16 @@ pub fn grown_alone(
     qp: &Qp,
     laws: &LawTable,
     borders: &[Border],
-    cell: KeptCell,
-    next: usize,
+    root: OpenCell,
 ) -> Result<Tree, TreeError>
     requires few { length laws.now < 2 ^ 32 }
     requires borders { AreBorders qp.now laws.now borders.now }
     requires cover { RegionsCover qp.now laws.now }
-    requires ready { IsReady qp.now laws.now (record { rows = cell.rows.items; next = next }) }
-    requires run { IsRunOf qp.now cell.rows.items cell.run }
-    ensures built { IfOk result (λ nodes. IsBuilt qp.now laws.now (record { rows = cell.rows.items; next = next }) nodes) }
-    ensures wide { IfErr result (λ e. IfWide e (IsFirstWide qp.now laws.now (record { rows = cell.rows.items; next = next }) 1)) }
+    requires root { IsOpenCell qp.now laws.now borders.now root }
+    ensures built { IfOk result (IsBuilt qp.now laws.now (cell_of root)) }
+    ensures wide { IfErr result (λ e. IfWide e (IsFirstWide qp.now laws.now (cell_of root) 1)) }
 {
-    match grown(alloc, qp, laws, borders, cell, next, None) {
+    match grown(alloc, qp, laws, borders, root, None) {
         Ok(tree) => Ok(tree),
         Err(Stop::Refused(error)) => Err(error),
         Err(Stop::GivenUp) => unreachable!(),

@@ -28,10 +28,11 @@ mod threads;
 
 use borders::all_borders;
 pub use errors::TreeError;
+use missed::Missed;
 use mpc_cover::cover_theorems;
 use mpc_rows::{LawTable, Qp, Tree};
 use mpc_sets::count_theorems;
-use runs::KeptCell;
+use runs::{KeptCell, OpenCell};
 use std::alloc::Global;
 pub use theorems::{multipliers_are_cert, one_tree, table_theorems};
 pub use threads::Grow;
@@ -68,5 +69,11 @@ pub fn build<G: Grow>(by: &G, alloc: Global, qp: &Qp, laws: &LawTable) -> Result
     count_theorems();
     let borders = all_borders(alloc, qp, laws)?;
     let cell = KeptCell::of(alloc, qp, Vec::new(alloc))?;
-    grown_by(by, alloc, qp, laws, &borders, cell, 0)
+    let missed = Missed::new(alloc, borders.len())?;
+    let root = OpenCell {
+        cell,
+        next: 0,
+        missed,
+    };
+    grown_by(by, alloc, qp, laws, &borders, root)
 }

@@ -42,6 +42,14 @@ impl Missed {
         Ok(Missed { first })
     }
 
+    /// The same table once more.
+    pub fn copy(&self, alloc: Global) -> Result<Self, NoMemory>
+        ensures { IfOk result (λ copy. copy ≡ self.now) }
+    {
+        let first = self.first.to_vec(alloc)?;
+        Ok(Missed { first })
+    }
+
     /// Whether the entry of the law at this place, from 0, is known.
     pub fn knows(&self, place: usize) -> bool
         ensures { IsTrue result ↔ (get_or self.now place UNKNOWN < UNKNOWN) }
@@ -76,13 +84,13 @@ pub struct Search {
 }
 
 impl Search {
-    /// With a table for so many laws, of which nothing is known.
-    pub fn new(alloc: Global, laws: usize) -> Result<Self, NoMemory>
-        ensures { IfOk result (λ kept. kept.missed ≡ replicate laws UNKNOWN) }
+    /// With the table of a cell.
+    pub fn new(alloc: Global, missed: Missed) -> Self
+        ensures { result.missed ≡ missed }
     {
-        Ok(Search {
+        Search {
             work: Workspace::new(alloc),
-            missed: Missed::new(alloc, laws)?,
-        })
+            missed,
+        }
     }
 }

@@ -4,6 +4,7 @@ ghost use Rattle.std.specs.Prelude.{◌≡◌, ◌++◌, ◌∷◌, [], IfOk, If
 ghost use Rattle.mpc_systems.specs.Writing.{HasBoxWidth};
 ghost use Rattle.mpc_tree.specs.CellRuns.{IsOpenAt, IsRunOf, IsRunWith};
 
+use crate::missed::Missed;
 use mpc_frac::NoMemory;
 use mpc_rows::{Qp, Row};
 use mpc_simplex::{Beginning, Workspace};
@@ -16,6 +17,15 @@ use std::alloc::Global;
 pub struct KeptCell {
     pub rows: Vec<Row>,
     pub run: Option<Beginning>,
+}
+
+/// A cell whose tree isn't built, the place of the law with which its search goes on, and what is known
+/// of the laws that its cell misses.
+#[derive(Drop)]
+pub struct OpenCell {
+    pub cell: KeptCell,
+    pub next: usize,
+    pub missed: Missed,
 }
 
 /// The same rows once more.

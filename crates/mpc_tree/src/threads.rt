@@ -3,9 +3,8 @@
 ghost use Rattle.std.specs.Prelude.{◌≡◌, ◌<◌, ◌^◌, All, IfOk, IfErr, IfSome, length, slice_set};
 ghost use Rattle.mpc_tree.specs.Borders.{AreBorders};
 ghost use Rattle.mpc_tree.specs.Causes.{IfWide};
-ghost use Rattle.mpc_tree.specs.CellRuns.{IsRunOf};
-ghost use Rattle.mpc_tree.specs.Growth.{IsReady, RegionsCover, IsBuilt};
-ghost use Rattle.mpc_tree.specs.Pieces.{cell_at, Becomes, IsOpen, IsOfPiece, IsWideIn, AreFilled, IsWideAmong, IsDrawn, IsFiner, with_drawn};
+ghost use Rattle.mpc_tree.specs.Growth.{IsOpenCell, RegionsCover, IsBuilt, cell_of};
+ghost use Rattle.mpc_tree.specs.Pieces.{Becomes, IsOpen, IsOfPiece, IsWideIn, AreFilled, IsWideAmong, IsDrawn, IsFiner, with_drawn};
 ghost use Rattle.mpc_tree.specs.Joins.{place_behind, IsWideBehind};
 ghost use Rattle.mpc_tree.specs.WideRuns.{IsFirstWide};
 
@@ -14,7 +13,7 @@ use crate::errors::{Stop, TreeError};
 use crate::frontier::{Piece, all_divided, groups, joined_groups, open_cells, pieces_of};
 use crate::growth::{grown, grown_alone};
 use crate::refusals::{Refusals, Watch, is_called_off};
-use crate::runs::{KeptCell, copied_rows};
+use crate::runs::{KeptCell, OpenCell, copied_rows};
 use mpc_forks::{map_indices, map_vec};
 use mpc_frac::NoMemory;
 use mpc_rows::{LawTable, Place, Qp, Tree};
@@ -46,21 +45,24 @@ fn drawn_cell(
     qp: &Qp,
     laws: &LawTable,
     borders: &[Border],
-    cell: &KeptCell,
-    next: usize,
+    root: &OpenCell,
     watch: Watch,
 ) -> Result<Option<Piece>, NoMemory>
     requires few { length laws.now < 2 ^ 32 }
     requires borders { AreBorders qp.now laws.now borders.now }
     requires cover { RegionsCover qp.now laws.now }
-    requires ready { IsReady qp.now laws.now (cell_at cell.now next) }
-    ensures { IfOk result (λ o. IfSome o (Becomes qp.now laws.now (Piece.Open cell.now next))) }
+    requires root { IsOpenCell qp.now laws.now borders.now root.now }
+    ensures { IfOk result (λ o. IfSome o (Becomes qp.now laws.now (Piece.Open root.now))) }
 {
     if is_called_off(&Some(watch)) {
         return Ok(None);
     }
-    let own = KeptCell::of(alloc, qp, copied_rows(alloc, &cell.rows)?)?;
-    match grown(alloc, qp, laws, borders, own, next, Some(watch)) {
+    let own = OpenCell {
+        cell: KeptCell::of(alloc, qp, copied_rows(alloc, &root.cell.rows)?)?,
+        next: root.next,
+        missed: root.missed.copy(alloc)?,
+    };
+    match grown(alloc, qp, laws, borders, own, Some(watch)) {
         Ok(tree) => Ok(Some(Piece::Closed(tree))),
         Err(Stop::Refused(TreeError::Wide(place))) => {
             watch.refusals.note(watch.piece);
@@ -85,7 +87,7 @@ fn draw(
     requires few { length laws.now < 2 ^ 32 }
     requires borders { AreBorders qp.now laws.now borders.now }
     requires cover { RegionsCover qp.now laws.now }
-    requires open { All (IsOpen qp.now laws.now) pieces.now }
+    requires open { All (IsOpen qp.now laws.now borders.now) pieces.now }
     ensures { IfOk result (λ drawn. All (IsDrawn qp.now laws.now pieces.now) drawn.items) }
 {
     let mut drawn = Vec::new(alloc);
@@ -94,9 +96,9 @@ fn draw(
         if pieces.len() <= piece {
             break;
         }
-        if let Piece::Open { cell, next } = &pieces[piece] {
+        if let Piece::Open(root) = &pieces[piece] {
             let watch = Watch { piece, refusals };
-            match drawn_cell(alloc, qp, laws, borders, cell, *next, watch)? {
+            match drawn_cell(alloc, qp, laws, borders, root, watch)? {
                 Some(built) => drawn.push(Drawn { piece, built })?,
                 None => break,
             }
@@ -125,8 +127,8 @@ pub trait Grow {
         requires few { length laws.now < 2 ^ 32 }
         requires borders { AreBorders qp.now laws.now borders.now }
         requires cover { RegionsCover qp.now laws.now }
-        requires open { All (IsOpen qp.now laws.now) pieces.items }
-        ensures open { IfOk result (λ finer. All (IsOpen qp.now laws.now) finer.items) }
+        requires open { All (IsOpen qp.now laws.now borders.now) pieces.items }
+        ensures open { IfOk result (λ finer. All (IsOpen qp.now laws.now borders.now) finer.items) }
         ensures finer { IfOk result (λ finer. IsFiner qp.now laws.now pieces.items finer.items) }
     {
         all_divided(alloc, qp, laws, borders, pieces)
@@ -146,7 +148,7 @@ pub trait Grow {
         requires few { length laws.now < 2 ^ 32 }
         requires borders { AreBorders qp.now laws.now borders.now }
         requires cover { RegionsCover qp.now laws.now }
-        requires open { All (IsOpen qp.now laws.now) pieces.now }
+        requires open { All (IsOpen qp.now laws.now borders.now) pieces.now }
         ensures { IfOk result (λ hands. All (λ hand. IfOk hand (λ drawn. All (IsDrawn qp.now laws.now pieces.now) drawn.items)) hands.items) }
     {
         Ok(Vec::new(alloc))
@@ -230,13 +232,13 @@ fn nodes_of(
     requires few { length laws.now < 2 ^ 32 }
     requires borders { AreBorders qp.now laws.now borders.now }
     requires cover { RegionsCover qp.now laws.now }
-    requires open { IsOpen qp.now laws.now piece }
+    requires open { IsOpen qp.now laws.now borders.now piece }
     ensures built { IfOk result (IsOfPiece qp.now laws.now piece) }
     ensures wide { IfErr result (λ e. IfWide e (IsWideIn qp.now laws.now piece 1)) }
 {
     match piece {
         Piece::Closed(nodes) => Ok(nodes),
-        Piece::Open { cell, next } => grown_alone(alloc, qp, laws, borders, cell, next),
+        Piece::Open(root) => grown_alone(alloc, qp, laws, borders, root),
         Piece::Refused(place) => Err(TreeError::Wide(place)),
     }
 }
@@ -279,7 +281,7 @@ fn joined(
     requires few { length laws.now < 2 ^ 32 }
     requires borders { AreBorders qp.now laws.now borders.now }
     requires cover { RegionsCover qp.now laws.now }
-    requires open { All (IsOpen qp.now laws.now) pieces.items }
+    requires open { All (IsOpen qp.now laws.now borders.now) pieces.items }
     ensures filled { IfOk result (AreFilled qp.now laws.now pieces.items) }
     ensures wide { IfErr result (λ e. IfWide e (IsWideAmong qp.now laws.now pieces.items 1)) }
 {
@@ -294,31 +296,29 @@ fn joined(
     Ok(tree)
 }
 
-/// The tree of the cell with these rows, whose search goes on with the next law. The cells
-/// of its upper part are divided and those that are open below are built by as many threads as there may
-/// be at once. Where that is one, nothing is cut. `Wide` numbers the nodes from 1.
+/// The tree of an open cell. The cells of its upper part are divided and those that are open below are
+/// built by as many threads as there may be at once. Where that is one, nothing is cut. `Wide` numbers the
+/// nodes from 1.
 pub fn grown_by<G: Grow>(
     by: &G,
     alloc: Global,
     qp: &Qp,
     laws: &LawTable,
     borders: &[Border],
-    cell: KeptCell,
-    next: usize,
+    root: OpenCell,
 ) -> Result<Tree, TreeError>
     requires few { length laws.now < 2 ^ 32 }
     requires borders { AreBorders qp.now laws.now borders.now }
     requires cover { RegionsCover qp.now laws.now }
-    requires ready { IsReady qp.now laws.now (record { rows = cell.rows.items; next = next }) }
-    requires run { IsRunOf qp.now cell.rows.items cell.run }
-    ensures built { IfOk result (λ nodes. IsBuilt qp.now laws.now (record { rows = cell.rows.items; next = next }) nodes) }
-    ensures wide { IfErr result (λ e. IfWide e (IsFirstWide qp.now laws.now (record { rows = cell.rows.items; next = next }) 1)) }
+    requires root { IsOpenCell qp.now laws.now borders.now root }
+    ensures built { IfOk result (IsBuilt qp.now laws.now (cell_of root)) }
+    ensures wide { IfErr result (λ e. IfWide e (IsFirstWide qp.now laws.now (cell_of root) 1)) }
 {
     let most = by.threads_at_once();
     if most < 2 || laws.len() < MANY_LAWS {
-        return grown_alone(alloc, qp, laws, borders, cell, next);
+        return grown_alone(alloc, qp, laws, borders, root);
     }
-    let mut pieces = pieces_of(by, alloc, qp, laws, borders, cell, next)?;
+    let mut pieces = pieces_of(by, alloc, qp, laws, borders, root)?;
     let hands = by.all_drawn(alloc, qp, laws, borders, &pieces, most)?;
     for hand in hands {
         lay_all(&mut pieces, hand?);

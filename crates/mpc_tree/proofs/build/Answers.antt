@@ -1,5 +1,6 @@
 use Rattle.std.proofs.Common.{◌∙◌}
 use Rattle.mpc_tree.proofs.Built.{laws_of_table, table_covers, built_tree, built_certs, built_certified, built_empty, built_wide, box_ready}
+use Rattle.mpc_tree.proofs.MissedLaws.{missed_none}
 use Rattle.mpc_tree.proofs.TableSizes.{laws_numbered}
 use Rattle.mpc_tree.proofs.build.Goals as goal
 
@@ -12,8 +13,12 @@ grown_by-requires-clause-few g c = laws_numbered c.count_theorems.ensures c.args
 pub grown_by-requires-clause-cover : goal.grown_by-requires-clause-cover
 grown_by-requires-clause-cover g c = table_covers c.cover_theorems.ensures.of_every_table c.args.qp.now c.args.laws.now c.requires.definite c.requires.table
 
-pub grown_by-requires-clause-ready : goal.grown_by-requires-clause-ready
-grown_by-requires-clause-ready g c = box_ready c.args.qp.now c.args.laws.now c.in_ok-cell.cell.rows.items (c.in_ok-cell.ensures.rows ∙ c.new.ensures.items)
+pub grown_by-requires-clause-root : goal.grown_by-requires-clause-root
+grown_by-requires-clause-root g c = record {
+  ready = box_ready c.args.qp.now c.args.laws.now c.in_ok-cell.cell.rows.items (c.in_ok-cell.ensures.rows ∙ c.new.ensures.items);
+  run = c.in_ok-cell.ensures.run;
+  missed = missed_none c.args.qp.now c.deref.result.now c.in_ok-cell.cell.rows.items c.len.result c.in_ok-missed.missed c.in_ok-missed.ensures;
+}
 
 pub returns-clause-tree : goal.returns-clause-tree
 returns-clause-tree g c = built_tree c.args.qp.now c.args.laws.now c.in_ok-cell.cell.rows.items (c.in_ok-cell.ensures.rows ∙ c.new.ensures.items) c.grown_by.result c.grown_by.ensures.built

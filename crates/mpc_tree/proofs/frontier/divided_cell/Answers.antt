@@ -2,8 +2,10 @@ use Rattle.std.proofs.Common.{◌≡◌, ◌∷◌, [], ◌∙◌, sym, ap, subs
 use Rattle.std.proofs.lemmas.Result.{IfOk-weaker}
 use Rattle.std.specs.Prelude.{All}
 use Rattle.mpc_tree.specs.declared.frontier.Piece.TheVariants.{Closed, Open, Refused}
-use Rattle.mpc_tree.specs.Growth.{IsSplitAt}
-use Rattle.mpc_tree.specs.Pieces.{cell_at, AreSides, IsOpen, IsFiner}
+use Rattle.mpc_tree.specs.declared.runs.OpenCell.{OpenCell}
+use Rattle.mpc_tree.specs.Growth.{IsOpenCell, IsSplitAt, cell_of}
+use Rattle.mpc_tree.specs.Missed.{AreMissed}
+use Rattle.mpc_tree.specs.Pieces.{AreSides, IsOpen, IsFiner}
 use Rattle.mpc_tree.proofs.CellRuns.{row_fits}
 use Rattle.mpc_tree.proofs.Dividing.{place_within, plain_read}
 use Rattle.mpc_tree.proofs.Sides.{same_row, split_open, split_finer, one_open}
@@ -12,40 +14,43 @@ use Rattle.mpc_tree.proofs.frontier.divided_cell.Goals as goal
 
 pub split-requires-clause-width : goal.split-requires-clause-width
 split-requires-clause-width c =
-    let s : IsSplitAt c.args.qp.now c.args.laws.now c.args.borders.now (cell_at c.args.cell c.args.next) c.in-Ok-Split.place c.in-Ok-Split.row = (rw c.in-Ok-Split.field-0-is at c.in-Ok-Split.ensures.placed).0 in
-    let row = same_row c.args.qp.now c.args.laws.now c.args.borders.now c.requires.borders (cell_at c.args.cell c.args.next) c.in-Ok-Split.place c.in-Ok-Split.row s c.index-borders-place.result c.as_slice.result.now c.index-as_slice-row.result c.index-borders-place.is c.as_slice.ensures c.index-as_slice-row.is in
-    row_fits c.args.qp.now c.args.cell.rows.items c.args.cell.run c.requires.run c.index-as_slice-row.result (plain_read c.args.qp.now c.args.laws.now c.args.borders.now c.requires.borders (cell_at c.args.cell c.args.next) c.in-Ok-Split.place c.in-Ok-Split.row s c.index-as_slice-row.result row).size
+    let s : IsSplitAt c.args.qp.now c.args.laws.now c.args.borders.now (cell_of c.args.parent) c.in-Ok-Split.place c.in-Ok-Split.row = (rw c.in-Ok-Split.field-0-is at c.in-Ok-Split.ensures.placed).0 in
+    let row = same_row c.args.qp.now c.args.laws.now c.args.borders.now c.requires.borders (cell_of c.args.parent) c.in-Ok-Split.place c.in-Ok-Split.row s c.index-borders-place.result c.as_slice.result.now c.index-as_slice-row.result c.index-borders-place.is c.as_slice.ensures c.index-as_slice-row.is in
+    row_fits c.args.qp.now c.args.parent.cell.rows.items c.args.parent.cell.run c.requires.parent.run c.index-as_slice-row.result (plain_read c.args.qp.now c.args.laws.now c.args.borders.now c.requires.borders (cell_of c.args.parent) c.in-Ok-Split.place c.in-Ok-Split.row s c.index-as_slice-row.result row).size
 
 pub split-requires-clause-room : goal.split-requires-clause-room
 split-requires-clause-room c =
-    let s : IsSplitAt c.args.qp.now c.args.laws.now c.args.borders.now (cell_at c.args.cell c.args.next) c.in-Ok-Split.place c.in-Ok-Split.row = (rw c.in-Ok-Split.field-0-is at c.in-Ok-Split.ensures.placed).0 in
-    omega (arith, place_within c.args.qp.now c.args.laws.now c.args.borders.now c.requires.borders (cell_at c.args.cell c.args.next) c.in-Ok-Split.place c.in-Ok-Split.row s, c.requires.few)
+    let s : IsSplitAt c.args.qp.now c.args.laws.now c.args.borders.now (cell_of c.args.parent) c.in-Ok-Split.place c.in-Ok-Split.row = (rw c.in-Ok-Split.field-0-is at c.in-Ok-Split.ensures.placed).0 in
+    omega (arith, place_within c.args.qp.now c.args.laws.now c.args.borders.now c.requires.borders (cell_of c.args.parent) c.in-Ok-Split.place c.in-Ok-Split.row s, c.requires.few)
 
 pub returns-in-Ok-Split-clause-open : goal.returns-in-Ok-Split-clause-open
 returns-in-Ok-Split-clause-open c =
-    let s : IsSplitAt c.args.qp.now c.args.laws.now c.args.borders.now (cell_at c.args.cell c.args.next) c.in-Ok-Split.place c.in-Ok-Split.row = (rw c.in-Ok-Split.field-0-is at c.in-Ok-Split.ensures.placed).0 in
-    let row = same_row c.args.qp.now c.args.laws.now c.args.borders.now c.requires.borders (cell_at c.args.cell c.args.next) c.in-Ok-Split.place c.in-Ok-Split.row s c.index-borders-place.result c.as_slice.result.now c.index-as_slice-row.result c.index-borders-place.is c.as_slice.ensures c.index-as_slice-row.is in
-    IfOk-weaker c.split.result (λ v. AreSides c.args.cell c.index-as_slice-row.result c.in-Ok-Split.run' c.in-Ok-Split.place v.items) (λ v. All (IsOpen c.args.qp.now c.args.laws.now) v.items)
-    (λ v p. split_open c.args.qp.now c.args.laws.now c.args.borders.now c.requires.borders c.args.cell c.args.next c.in-Ok-Split.place c.in-Ok-Split.row s c.index-as_slice-row.result row c.in-Ok-Split.run' v.items p c.cell_theorems.ensures c.requires.ready c.requires.run (rw c.in-Ok-Split.field-0-is at c.in-Ok-Split.ensures.placed).1) c.split.ensures
+    let s : IsSplitAt c.args.qp.now c.args.laws.now c.args.borders.now (cell_of c.args.parent) c.in-Ok-Split.place c.in-Ok-Split.row = (rw c.in-Ok-Split.field-0-is at c.in-Ok-Split.ensures.placed).0 in
+    let row = same_row c.args.qp.now c.args.laws.now c.args.borders.now c.requires.borders (cell_of c.args.parent) c.in-Ok-Split.place c.in-Ok-Split.row s c.index-borders-place.result c.as_slice.result.now c.index-as_slice-row.result c.index-borders-place.is c.as_slice.ensures c.index-as_slice-row.is in
+    let parent : OpenCell = record { cell = c.args.parent.cell; next = c.args.parent.next; missed = c.swap-in-Ok-Split.new.y } in
+    let known : IsOpenCell c.args.qp.now c.args.laws.now c.args.borders.now parent = record { ready = c.requires.parent.ready; run = c.requires.parent.run; missed = subst (AreMissed c.args.qp.now c.args.borders.now c.args.parent.cell.rows.items) (sym c.swap-in-Ok-Split.ensures.y_after) c.in-Ok-Split.ensures.missed } in
+    IfOk-weaker c.split.result (λ v. AreSides parent c.index-as_slice-row.result c.in-Ok-Split.run' c.in-Ok-Split.place v.items) (λ v. All (IsOpen c.args.qp.now c.args.laws.now c.args.borders.now) v.items)
+    (λ v p. split_open c.args.qp.now c.args.laws.now c.args.borders.now c.requires.borders parent c.in-Ok-Split.place c.in-Ok-Split.row s c.index-as_slice-row.result row c.in-Ok-Split.run' v.items p known c.cell_theorems.ensures (rw c.in-Ok-Split.field-0-is at c.in-Ok-Split.ensures.placed).1) c.split.ensures
 
 pub returns-in-Ok-Split-clause-finer : goal.returns-in-Ok-Split-clause-finer
 returns-in-Ok-Split-clause-finer c =
-    let s : IsSplitAt c.args.qp.now c.args.laws.now c.args.borders.now (cell_at c.args.cell c.args.next) c.in-Ok-Split.place c.in-Ok-Split.row = (rw c.in-Ok-Split.field-0-is at c.in-Ok-Split.ensures.placed).0 in
-    let row = same_row c.args.qp.now c.args.laws.now c.args.borders.now c.requires.borders (cell_at c.args.cell c.args.next) c.in-Ok-Split.place c.in-Ok-Split.row s c.index-borders-place.result c.as_slice.result.now c.index-as_slice-row.result c.index-borders-place.is c.as_slice.ensures c.index-as_slice-row.is in
-    IfOk-weaker c.split.result (λ v. AreSides c.args.cell c.index-as_slice-row.result c.in-Ok-Split.run' c.in-Ok-Split.place v.items) (λ v. IsFiner c.args.qp.now c.args.laws.now (Open c.args.cell c.args.next ∷ []) v.items)
-    (λ v p. split_finer c.args.qp.now c.args.laws.now c.args.borders.now c.requires.borders c.args.cell c.args.next c.in-Ok-Split.place c.in-Ok-Split.row s c.index-as_slice-row.result row c.in-Ok-Split.run' v.items p) c.split.ensures
+    let s : IsSplitAt c.args.qp.now c.args.laws.now c.args.borders.now (cell_of c.args.parent) c.in-Ok-Split.place c.in-Ok-Split.row = (rw c.in-Ok-Split.field-0-is at c.in-Ok-Split.ensures.placed).0 in
+    let row = same_row c.args.qp.now c.args.laws.now c.args.borders.now c.requires.borders (cell_of c.args.parent) c.in-Ok-Split.place c.in-Ok-Split.row s c.index-borders-place.result c.as_slice.result.now c.index-as_slice-row.result c.index-borders-place.is c.as_slice.ensures c.index-as_slice-row.is in
+    let parent : OpenCell = record { cell = c.args.parent.cell; next = c.args.parent.next; missed = c.swap-in-Ok-Split.new.y } in
+    IfOk-weaker c.split.result (λ v. AreSides parent c.index-as_slice-row.result c.in-Ok-Split.run' c.in-Ok-Split.place v.items) (λ v. IsFiner c.args.qp.now c.args.laws.now (Open c.args.parent ∷ []) v.items)
+    (λ v p. let finer = split_finer c.args.qp.now c.args.laws.now c.args.borders.now c.requires.borders parent c.in-Ok-Split.place c.in-Ok-Split.row s c.index-as_slice-row.result row c.in-Ok-Split.run' v.items p in record { filled = finer.filled; wide = finer.wide }) c.split.ensures
 
 pub returns-in-Ok-Leaf-clause-finer : goal.returns-in-Ok-Leaf-clause-finer
 returns-in-Ok-Leaf-clause-finer c =
-    IfOk-weaker c.one.result (λ v. v.items ≡ c.in_ok-closed-in-Ok-Leaf.field-0 ∷ []) (λ v. IsFiner c.args.qp.now c.args.laws.now (Open c.args.cell c.args.next ∷ []) v.items)
-    (λ v e. subst (IsFiner c.args.qp.now c.args.laws.now (Open c.args.cell c.args.next ∷ [])) (sym (e ∙ ap (λ p. p ∷ []) c.in_ok-closed-in-Ok-Leaf.ensures)) (finer_one c.args.qp.now c.args.laws.now (Open c.args.cell c.args.next) (Closed (c.in-Ok-Leaf.leaf ∷ [])) (leaf_becomes c.args.qp.now c.args.laws.now c.args.cell c.args.next c.in-Ok-Leaf.leaf (rw c.in-Ok-Leaf.field-0-is at c.in-Ok-Leaf.ensures.placed)))) c.one.ensures
+    IfOk-weaker c.one.result (λ v. v.items ≡ c.in_ok-closed-in-Ok-Leaf.field-0 ∷ []) (λ v. IsFiner c.args.qp.now c.args.laws.now (Open c.args.parent ∷ []) v.items)
+    (λ v e. subst (IsFiner c.args.qp.now c.args.laws.now (Open c.args.parent ∷ [])) (sym (e ∙ ap (λ p. p ∷ []) c.in_ok-closed-in-Ok-Leaf.ensures)) (finer_one c.args.qp.now c.args.laws.now (Open c.args.parent) (Closed (c.in-Ok-Leaf.leaf ∷ [])) (leaf_becomes c.args.qp.now c.args.laws.now c.args.parent c.in-Ok-Leaf.leaf (rw c.in-Ok-Leaf.field-0-is at c.in-Ok-Leaf.ensures.placed)))) c.one.ensures
 
 pub returns-in-Err-Wide-clause-open : goal.returns-in-Err-Wide-clause-open
 returns-in-Err-Wide-clause-open c =
-    IfOk-weaker c.one-in-Err-Wide.result (λ v. v.items ≡ Refused c.in-Err-Wide.place ∷ []) (λ v. All (IsOpen c.args.qp.now c.args.laws.now) v.items)
-    (λ v e. one_open c.args.qp.now c.args.laws.now v.items (Refused c.in-Err-Wide.place) e tt) c.one-in-Err-Wide.ensures
+    IfOk-weaker c.one-in-Err-Wide.result (λ v. v.items ≡ Refused c.in-Err-Wide.place ∷ []) (λ v. All (IsOpen c.args.qp.now c.args.laws.now c.args.borders.now) v.items)
+    (λ v e. one_open c.args.qp.now c.args.laws.now c.args.borders.now v.items (Refused c.in-Err-Wide.place) e tt) c.one-in-Err-Wide.ensures
 
 pub returns-in-Err-Wide-clause-finer : goal.returns-in-Err-Wide-clause-finer
 returns-in-Err-Wide-clause-finer c =
-    IfOk-weaker c.one-in-Err-Wide.result (λ v. v.items ≡ Refused c.in-Err-Wide.place ∷ []) (λ v. IsFiner c.args.qp.now c.args.laws.now (Open c.args.cell c.args.next ∷ []) v.items)
-    (λ v e. subst (IsFiner c.args.qp.now c.args.laws.now (Open c.args.cell c.args.next ∷ [])) (sym e) (finer_one c.args.qp.now c.args.laws.now (Open c.args.cell c.args.next) (Refused c.in-Err-Wide.place) (node_refused c.args.qp.now c.args.laws.now c.args.cell c.args.next c.in-Err-Wide.place (rw c.in-Err-Wide.field-0-is at c.in-Err-Wide.ensures.wide)))) c.one-in-Err-Wide.ensures
+    IfOk-weaker c.one-in-Err-Wide.result (λ v. v.items ≡ Refused c.in-Err-Wide.place ∷ []) (λ v. IsFiner c.args.qp.now c.args.laws.now (Open c.args.parent ∷ []) v.items)
+    (λ v e. subst (IsFiner c.args.qp.now c.args.laws.now (Open c.args.parent ∷ [])) (sym e) (finer_one c.args.qp.now c.args.laws.now (Open c.args.parent) (Refused c.in-Err-Wide.place) (node_refused c.args.qp.now c.args.laws.now c.args.parent c.in-Err-Wide.place (rw c.in-Err-Wide.field-0-is at c.in-Err-Wide.ensures.wide)))) c.one-in-Err-Wide.ensures

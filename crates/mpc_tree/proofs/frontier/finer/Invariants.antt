@@ -7,7 +7,7 @@ use Rattle.mpc_tree.proofs.frontier.finer.Given as goal
 abbrev pub invariant-loop-piece : goal.invariant-loop-piece
 invariant-loop-piece l = record {
   finer : IsFiner l.qp l.laws l.fn.pieces.items (l.finer.items ++ into_iter_items l.piece-iterator);
-  done : All (IsOpen l.qp l.laws) l.finer.items;
-  left : All (IsOpen l.qp l.laws) (into_iter_items l.piece-iterator);
+  done : All (IsOpen l.qp l.laws l.borders) l.finer.items;
+  left : All (IsOpen l.qp l.laws l.borders) (into_iter_items l.piece-iterator);
   count : into_iter_len l.piece-iterator ≡ length (into_iter_items l.piece-iterator);
 }

@@ -6,6 +6,6 @@ use Rattle.mpc_tree.proofs.frontier.pieces_of.Given as goal
 
 abbrev pub invariant-loop-round : goal.invariant-loop-round
 invariant-loop-round g l = record {
-  finer : IsFiner l.qp l.laws (Open l.fn.cell l.fn.next ∷ []) l.pieces.items;
-  ready : All (IsOpen l.qp l.laws) l.pieces.items;
+  finer : IsFiner l.qp l.laws (Open l.fn.root ∷ []) l.pieces.items;
+  ready : All (IsOpen l.qp l.laws l.borders) l.pieces.items;
 }

@@ -4,7 +4,7 @@ use Rattle.mpc_space.specs.Matrix.{height}
 use Rattle.mpc_rows.specs.LawRows.{whole_row}
 use Rattle.mpc_tree.specs.Causes.{IfWide}
 use Rattle.mpc_tree.specs.CellRuns.{IsRunOf}
-use Rattle.mpc_tree.specs.Growth.{IsSplitAt, IsLeafAt}
+use Rattle.mpc_tree.specs.Growth.{IsSplitAt, IsLeafAt, cell_of}
 use Rattle.mpc_tree.specs.WideRuns.{IsWideAt}
 use Rattle.mpc_tree.proofs.CellRuns.{row_fits, narrowed}
 use Rattle.mpc_tree.proofs.Dividing.{place_within, row_within, rows_read, row_read, row_inside, plain_read, known_at, grown_at}
@@ -16,7 +16,7 @@ use Rattle.mpc_tree.proofs.growth.grown.Goals as goal
 
 pub returns-in-Err-clause-wide : goal.returns-in-Err-clause-wide
 returns-in-Err-clause-wide c =
-    wide_at c.args.qp.now c.args.laws.now (record { rows = c.args.cell.rows.items; next = c.args.next }) c.args.borders.now c.nodes.tree (record { rows = c.nodes.cell.rows.items; next = c.nodes.next }) c.nodes.sides.items c.nodes.held c.nodes.invariant.grown c.in-Err.error
+    wide_at c.args.qp.now c.args.laws.now (cell_of c.args.root) c.args.borders.now c.nodes.tree (record { rows = c.nodes.cell.rows.items; next = c.nodes.next }) c.nodes.sides.items c.nodes.held c.nodes.invariant.grown c.in-Err.error
     (subst (λ n. IfWide c.in-Err.error (IsWideAt c.args.qp.now c.args.laws.now (record { rows = c.nodes.cell.rows.items; next = c.nodes.next }) n)) (ap (λ n. n + 1) c.len.ensures)
     c.in-Err.ensures.wide)
 
@@ -71,14 +71,14 @@ overflow_add-held c =
 pub nodes-smaller-in-Ok-Split : goal.nodes-smaller-in-Ok-Split
 nodes-smaller-in-Ok-Split c =
     let s : IsSplitAt c.args.qp.now c.args.laws.now c.args.borders.now (record { rows = c.nodes.cell.rows.items; next = c.nodes.next }) c.in-Ok-Split.place c.in-Ok-Split.row = (rw c.in-Ok-Split.field-0-is at c.in-Ok-Split.ensures.placed).0 in
-    smaller_at c.args.qp.now c.args.laws.now c.args.borders.now c.requires.borders (record { rows = c.nodes.cell.rows.items; next = c.nodes.next }) c.in-Ok-Split.place c.in-Ok-Split.row s (record { rows = c.args.cell.rows.items; next = c.args.next }) c.nodes.tree c.nodes.sides.items c.nodes.held c.nodes.invariant.grown c.in-Ok-Split.run' c.index-rows-row.result (row_read c.args.qp.now c.args.laws.now c.args.borders.now c.requires.borders (record { rows = c.nodes.cell.rows.items; next = c.nodes.next }) c.in-Ok-Split.place c.in-Ok-Split.row s c.as_slice-rows.result.now c.index-rows-row.result (rows_read c.args.qp.now c.args.laws.now c.args.borders.now c.requires.borders (record { rows = c.nodes.cell.rows.items; next = c.nodes.next }) c.in-Ok-Split.place c.in-Ok-Split.row s c.index-borders-place.result c.as_slice-rows.result.now c.index-borders-place.is c.as_slice-rows.ensures) c.index-rows-row.is) c.open_split.new.sides.items c.in_ok-open_split-in-Ok-Split.ensures.sides
+    smaller_at c.args.qp.now c.args.laws.now c.args.borders.now c.requires.borders (record { rows = c.nodes.cell.rows.items; next = c.nodes.next }) c.in-Ok-Split.place c.in-Ok-Split.row s (cell_of c.args.root) c.nodes.tree c.nodes.sides.items c.nodes.held c.nodes.invariant.grown c.in-Ok-Split.run' c.index-rows-row.result (row_read c.args.qp.now c.args.laws.now c.args.borders.now c.requires.borders (record { rows = c.nodes.cell.rows.items; next = c.nodes.next }) c.in-Ok-Split.place c.in-Ok-Split.row s c.as_slice-rows.result.now c.index-rows-row.result (rows_read c.args.qp.now c.args.laws.now c.args.borders.now c.requires.borders (record { rows = c.nodes.cell.rows.items; next = c.nodes.next }) c.in-Ok-Split.place c.in-Ok-Split.row s c.index-borders-place.result c.as_slice-rows.result.now c.index-borders-place.is c.as_slice-rows.ensures) c.index-rows-row.is) c.open_split.new.sides.items c.in_ok-open_split-in-Ok-Split.ensures.sides
 
 pub nodes-preserved-in-Ok-Split : goal.nodes-preserved-in-Ok-Split
 nodes-preserved-in-Ok-Split c =
     let s : IsSplitAt c.args.qp.now c.args.laws.now c.args.borders.now (record { rows = c.nodes.cell.rows.items; next = c.nodes.next }) c.in-Ok-Split.place c.in-Ok-Split.row = (rw c.in-Ok-Split.field-0-is at c.in-Ok-Split.ensures.placed).0 in
     let row : c.index-rows-row.result ≡ s.row = row_read c.args.qp.now c.args.laws.now c.args.borders.now c.requires.borders (record { rows = c.nodes.cell.rows.items; next = c.nodes.next }) c.in-Ok-Split.place c.in-Ok-Split.row s c.as_slice-rows.result.now c.index-rows-row.result (rows_read c.args.qp.now c.args.laws.now c.args.borders.now c.requires.borders (record { rows = c.nodes.cell.rows.items; next = c.nodes.next }) c.in-Ok-Split.place c.in-Ok-Split.row s c.index-borders-place.result c.as_slice-rows.result.now c.index-borders-place.is c.as_slice-rows.ensures) c.index-rows-row.is in
     record {
-      grown = grown_at c.args.qp.now c.args.laws.now c.args.borders.now c.requires.borders (record { rows = c.nodes.cell.rows.items; next = c.nodes.next }) c.in-Ok-Split.place c.in-Ok-Split.row s c.cell_theorems.ensures (record { rows = c.args.cell.rows.items; next = c.args.next }) c.nodes.tree c.nodes.sides.items c.nodes.held c.nodes.invariant.grown c.in-Ok-Split.run' (rw c.in-Ok-Split.field-0-is at c.in-Ok-Split.ensures.placed).1 c.index-rows-row.result row c.open_split.new.tree c.open_split.new.cell.rows.items c.open_split.new.sides.items c.in_ok-open_split-in-Ok-Split.ensures.tree c.in_ok-open_split-in-Ok-Split.ensures.cell c.in_ok-open_split-in-Ok-Split.ensures.sides;
+      grown = grown_at c.args.qp.now c.args.laws.now c.args.borders.now c.requires.borders (record { rows = c.nodes.cell.rows.items; next = c.nodes.next }) c.in-Ok-Split.place c.in-Ok-Split.row s c.cell_theorems.ensures (cell_of c.args.root) c.nodes.tree c.nodes.sides.items c.nodes.held c.nodes.invariant.grown c.in-Ok-Split.run' (rw c.in-Ok-Split.field-0-is at c.in-Ok-Split.ensures.placed).1 c.index-rows-row.result row c.open_split.new.tree c.open_split.new.cell.rows.items c.open_split.new.sides.items c.in_ok-open_split-in-Ok-Split.ensures.tree c.in_ok-open_split-in-Ok-Split.ensures.cell c.in_ok-open_split-in-Ok-Split.ensures.sides;
       known = λ h. known_at c.args.qp.now c.args.laws.now c.args.borders.now c.requires.borders (record { rows = c.nodes.cell.rows.items; next = c.nodes.next }) c.in-Ok-Split.place c.in-Ok-Split.row s c.cell_theorems.ensures c.index-rows-row.result row c.open_split.new.cell.rows.items c.in_ok-open_split-in-Ok-Split.ensures.cell;
       missed = missed_longer c.args.qp.now c.args.borders.now c.nodes.cell.rows.items c.place_node.new.kept.missed c.in-Ok-Split.ensures.missed (whole_row c.index-rows-row.result) c.open_split.new.cell.rows.items c.in_ok-open_split-in-Ok-Split.ensures.cell;
       run = subst (λ rows. IsRunOf c.args.qp.now rows c.open_split.new.cell.run) (sym c.in_ok-open_split-in-Ok-Split.ensures.cell) (narrowed c.args.qp.now c.nodes.cell.rows.items c.nodes.cell.run c.nodes.invariant.run (whole_row c.index-rows-row.result) c.open_split.new.cell.run c.in_ok-open_split-in-Ok-Split.ensures.run);
@@ -87,7 +87,7 @@ nodes-preserved-in-Ok-Split c =
 pub returns-in-None-clause-built : goal.returns-in-None-clause-built
 returns-in-None-clause-built c =
     let l : IsLeafAt c.args.qp.now c.args.laws.now (record { rows = c.nodes.cell.rows.items; next = c.nodes.next }) c.in-Ok-Leaf.leaf = (rw c.in-Ok-Leaf.field-0-is at c.in-Ok-Leaf.ensures.placed) in
-    last_at c.args.qp.now c.args.laws.now (record { rows = c.args.cell.rows.items; next = c.args.next }) c.args.borders.now c.nodes.tree c.shrink_to_fit.new.self (record { rows = c.nodes.cell.rows.items; next = c.nodes.next }) c.nodes.sides.items c.nodes.held c.in-Ok-Leaf.leaf c.nodes.invariant.grown l (c.in-None.ensures.items ∙ append-nil c.pop.new.self.items ∙ c.in-None.ensures.rest ∙ ap (λ n. take (n - 1) c.nodes.sides.items) c.in-None.ensures.cases.0) (c.shrink_to_fit.ensures ∙ c.in_ok-push-in-Ok-Leaf.ensures.ok)
+    last_at c.args.qp.now c.args.laws.now (cell_of c.args.root) c.args.borders.now c.nodes.tree c.shrink_to_fit.new.self (record { rows = c.nodes.cell.rows.items; next = c.nodes.next }) c.nodes.sides.items c.nodes.held c.in-Ok-Leaf.leaf c.nodes.invariant.grown l (c.in-None.ensures.items ∙ append-nil c.pop.new.self.items ∙ c.in-None.ensures.rest ∙ ap (λ n. take (n - 1) c.nodes.sides.items) c.in-None.ensures.cases.0) (c.shrink_to_fit.ensures ∙ c.in_ok-push-in-Ok-Leaf.ensures.ok)
 
 pub nodes-smaller : goal.nodes-smaller
 nodes-smaller c =
@@ -99,11 +99,11 @@ pub nodes-preserved : goal.nodes-preserved
 nodes-preserved c =
     let l : IsLeafAt c.args.qp.now c.args.laws.now (record { rows = c.nodes.cell.rows.items; next = c.nodes.next }) c.in-Ok-Leaf.leaf = (rw c.in-Ok-Leaf.field-0-is at c.in-Ok-Leaf.ensures.placed) in
     record {
-      grown = next_at c.args.qp.now c.args.laws.now (record { rows = c.args.cell.rows.items; next = c.args.next }) c.args.borders.now c.nodes.tree c.push.new.self (record { rows = c.nodes.cell.rows.items; next = c.nodes.next }) c.nodes.sides.items c.pop.new.self.items c.in-Some.side c.nodes.held c.in-Ok-Leaf.leaf c.enter.new.cell.rows.items c.in_ok-next-in-Some.next c.nodes.invariant.grown l c.in-Some.ensures.items c.in_ok-push-in-Ok-Leaf.ensures.ok c.in_ok-next-in-Some.ensures.cell c.in_ok-next-in-Some.ensures.next;
+      grown = next_at c.args.qp.now c.args.laws.now (cell_of c.args.root) c.args.borders.now c.nodes.tree c.push.new.self (record { rows = c.nodes.cell.rows.items; next = c.nodes.next }) c.nodes.sides.items c.pop.new.self.items c.in-Some.side c.nodes.held c.in-Ok-Leaf.leaf c.enter.new.cell.rows.items c.in_ok-next-in-Some.next c.nodes.invariant.grown l c.in-Some.ensures.items c.in_ok-push-in-Ok-Leaf.ensures.ok c.in_ok-next-in-Some.ensures.cell c.in_ok-next-in-Some.ensures.next;
       known = λ h. absurd (omega arith);
-      missed = missed_side c.args.qp.now c.args.borders.now c.nodes.cell.rows.items c.place_node.new.kept.missed c.in-Ok-Leaf.ensures.missed c.in-Some.side.shared (shared_within c.args.qp.now c.args.laws.now (record { rows = c.args.cell.rows.items; next = c.args.next }) c.args.borders.now c.nodes.tree (record { rows = c.nodes.cell.rows.items; next = c.nodes.next }) c.nodes.sides.items c.pop.new.self.items c.in-Some.side c.nodes.held c.nodes.invariant.grown c.in-Some.ensures.items) c.in-Some.side.row c.enter.new.cell.rows.items c.in_ok-next-in-Some.ensures.cell c.forget.new.self c.forget.ensures;
-      run = top_run c.args.qp.now c.args.laws.now (record { rows = c.args.cell.rows.items; next = c.args.next }) c.args.borders.now c.nodes.tree (record { rows = c.nodes.cell.rows.items; next = c.nodes.next }) c.nodes.sides.items c.pop.new.self.items c.in-Some.side c.nodes.held c.nodes.invariant.grown c.in-Some.ensures.items c.enter.new.cell.rows.items c.enter.new.cell.run c.in_ok-next-in-Some.ensures.cell c.in_ok-next-in-Some.ensures.run;
+      missed = missed_side c.args.qp.now c.args.borders.now c.nodes.cell.rows.items c.place_node.new.kept.missed c.in-Ok-Leaf.ensures.missed c.in-Some.side.shared (shared_within c.args.qp.now c.args.laws.now (cell_of c.args.root) c.args.borders.now c.nodes.tree (record { rows = c.nodes.cell.rows.items; next = c.nodes.next }) c.nodes.sides.items c.pop.new.self.items c.in-Some.side c.nodes.held c.nodes.invariant.grown c.in-Some.ensures.items) c.in-Some.side.row c.enter.new.cell.rows.items c.in_ok-next-in-Some.ensures.cell c.forget.new.self c.forget.ensures;
+      run = top_run c.args.qp.now c.args.laws.now (cell_of c.args.root) c.args.borders.now c.nodes.tree (record { rows = c.nodes.cell.rows.items; next = c.nodes.next }) c.nodes.sides.items c.pop.new.self.items c.in-Some.side c.nodes.held c.nodes.invariant.grown c.in-Some.ensures.items c.enter.new.cell.rows.items c.enter.new.cell.run c.in_ok-next-in-Some.ensures.cell c.in_ok-next-in-Some.ensures.run;
     }
 
 pub enter-requires : goal.enter-requires
-enter-requires c = shared_within c.args.qp.now c.args.laws.now (record { rows = c.args.cell.rows.items; next = c.args.next }) c.args.borders.now c.nodes.tree (record { rows = c.nodes.cell.rows.items; next = c.nodes.next }) c.nodes.sides.items c.pop.new.self.items c.in-Some.side c.nodes.held c.nodes.invariant.grown c.in-Some.ensures.items
+enter-requires c = shared_within c.args.qp.now c.args.laws.now (cell_of c.args.root) c.args.borders.now c.nodes.tree (record { rows = c.nodes.cell.rows.items; next = c.nodes.next }) c.nodes.sides.items c.pop.new.self.items c.in-Some.side c.nodes.held c.nodes.invariant.grown c.in-Some.ensures.items

@@ -1,7 +1,7 @@
 use Rattle.std.proofs.Common.{◌<◌, length}
 use Rattle.mpc_space.specs.Matrix.{height}
 use Rattle.mpc_tree.specs.CellRuns.{IsRunOf}
-use Rattle.mpc_tree.specs.Growth.{MeetsNext}
+use Rattle.mpc_tree.specs.Growth.{MeetsNext, cell_of}
 use Rattle.mpc_tree.specs.Missed.{AreMissed}
 use Rattle.mpc_tree.proofs.Ending.{weights}
 use Rattle.mpc_tree.proofs.Growing.{IsGrown}
@@ -9,7 +9,7 @@ use Rattle.mpc_tree.proofs.growth.grown.Given as goal
 
 abbrev pub invariant-nodes : goal.invariant-nodes
 invariant-nodes l = record {
-  grown : IsGrown l.qp l.laws (record { rows = l.fn.cell.rows.items; next = l.fn.next }) l.borders l.tree (record { rows = l.cell.rows.items; next = l.next }) l.sides.items l.held;
+  grown : IsGrown l.qp l.laws (cell_of l.fn.root) l.borders l.tree (record { rows = l.cell.rows.items; next = l.next }) l.sides.items l.held;
   known : 0 < l.held → MeetsNext l.qp l.laws (record { rows = l.cell.rows.items; next = l.next });
   run : IsRunOf l.qp l.cell.rows.items l.cell.run;
   missed : AreMissed l.qp l.borders l.cell.rows.items l.kept.missed;

@@ -5,6 +5,6 @@ use Rattle.mpc_tree.proofs.threads.drawn_cell.Goals as goal
 
 pub returns-in-Err-Refused-Wide : goal.returns-in-Err-Refused-Wide
 returns-in-Err-Refused-Wide c =
-    let same : c.in_ok-own.own.rows.items ≡ c.args.cell.now.rows.items = search rules in
-    let wide : IsFirstWide c.args.qp.now c.args.laws.now (record { rows = c.in_ok-own.own.rows.items; next = c.args.next }) 1 c.in-Err-Refused-Wide.place = rw (c.in-Err-Refused-Wide.field-0-is, c.in-Err-Refused-Wide.field-0-0-is) at c.in-Err-Refused-Wide.ensures.wide in
-    refusal_becomes c.args.qp.now c.args.laws.now c.args.cell.now c.args.next c.in-Err-Refused-Wide.place (subst (λ rows. IsFirstWide c.args.qp.now c.args.laws.now (record { rows = rows; next = c.args.next }) 1 c.in-Err-Refused-Wide.place) same wide)
+    let same : c.in_ok-of.field-0.rows.items ≡ c.args.root.now.cell.rows.items = search rules in
+    let wide : IsFirstWide c.args.qp.now c.args.laws.now (record { rows = c.in_ok-of.field-0.rows.items; next = c.args.root.now.next }) 1 c.in-Err-Refused-Wide.place = rw (c.in-Err-Refused-Wide.field-0-is, c.in-Err-Refused-Wide.field-0-0-is) at c.in-Err-Refused-Wide.ensures.wide in
+    refusal_becomes c.args.qp.now c.args.laws.now c.args.root.now c.in-Err-Refused-Wide.place (subst (λ rows. IsFirstWide c.args.qp.now c.args.laws.now (record { rows = rows; next = c.args.root.now.next }) 1 c.in-Err-Refused-Wide.place) same wide)

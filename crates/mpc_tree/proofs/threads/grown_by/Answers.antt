@@ -4,8 +4,8 @@ use Rattle.std.proofs.lemmas.List.Elements.{All-head, All-tail}
 use Rattle.std.proofs.lemmas.Result.{IfOk-weaker}
 use Rattle.std.specs.Prelude.{All}
 use Rattle.std.specs.Vec.Iter.{into_iter_items, into_iter_len}
-use Rattle.mpc_tree.specs.Growth.{IsBuilt}
-use Rattle.mpc_tree.specs.Pieces.{cell_at, AreFilled, IsDrawn}
+use Rattle.mpc_tree.specs.Growth.{IsBuilt, cell_of}
+use Rattle.mpc_tree.specs.Pieces.{AreFilled, IsDrawn}
 use Rattle.mpc_tree.proofs.PieceLemmas.{AllBecome, IsHand, become_same, become_finer, become_open, of_whole, wide_whole, hand_within, all_laid}
 use Rattle.mpc_tree.proofs.threads.grown_by.Goals as goal
 
@@ -45,18 +45,18 @@ loop-hand-preserved g c =
     }
 
 pub joined-requires-clause-open : goal.joined-requires-clause-open
-joined-requires-clause-open g c = become_open c.args.qp.now c.args.laws.now c.in_ok-pieces.pieces.items c.loop-hand.pieces.items c.loop-hand.invariant.become c.in_ok-pieces.ensures.open
+joined-requires-clause-open g c = become_open c.args.qp.now c.args.laws.now c.args.borders.now c.in_ok-pieces.pieces.items c.loop-hand.pieces.items c.loop-hand.invariant.become c.in_ok-pieces.ensures.open
 
 pub returns-clause-built : goal.returns-clause-built
 returns-clause-built g c =
     let qp = c.args.qp.now in
     let laws = c.args.laws.now in
     let laid = become_finer qp laws c.in_ok-pieces.pieces.items c.loop-hand.pieces.items c.loop-hand.invariant.become in
-    IfOk-weaker c.joined.result (AreFilled qp laws c.loop-hand.pieces.items) (IsBuilt qp laws (cell_at c.args.cell c.args.next)) (λ nodes f. of_whole qp laws c.args.cell c.args.next nodes (c.in_ok-pieces.ensures.finer.filled nodes (laid.filled nodes f))) c.joined.ensures.filled
+    IfOk-weaker c.joined.result (AreFilled qp laws c.loop-hand.pieces.items) (IsBuilt qp laws (cell_of c.args.root)) (λ nodes f. of_whole qp laws c.args.root nodes (c.in_ok-pieces.ensures.finer.filled nodes (laid.filled nodes f))) c.joined.ensures.filled
 
 pub returns-clause-wide : goal.returns-clause-wide
 returns-clause-wide g c =
     let qp = c.args.qp.now in
     let laws = c.args.laws.now in
     let laid = become_finer qp laws c.in_ok-pieces.pieces.items c.loop-hand.pieces.items c.loop-hand.invariant.become in
-    wide_whole qp laws c.args.cell c.args.next c.loop-hand.pieces.items (record { filled = λ nodes f. c.in_ok-pieces.ensures.finer.filled nodes (laid.filled nodes f); wide = λ number place w. c.in_ok-pieces.ensures.finer.wide number place (laid.wide number place w) }) c.joined.result c.joined.ensures.wide
+    wide_whole qp laws c.args.root c.loop-hand.pieces.items (record { filled = λ nodes f. c.in_ok-pieces.ensures.finer.filled nodes (laid.filled nodes f); wide = λ number place w. c.in_ok-pieces.ensures.finer.wide number place (laid.wide number place w) }) c.joined.result c.joined.ensures.wide
