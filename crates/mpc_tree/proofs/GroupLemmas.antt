@@ -4,7 +4,6 @@ use Rattle.std.specs.Prelude.{All, slice_index_or}
 use Rattle.std.proofs.lemmas.List.{append-nil, append_assoc, take-append-drop}
 use Rattle.std.proofs.lemmas.List.Elements.{All-nil, All-cons, All-head, All-tail, All-append}
 use Rattle.mpc_frac.specs.declared.NoMemory.{NoMemory as NoRoom}
-use Rattle.mpc_linear.specs.declared.integers.RowInt.{RowInt}
 use Rattle.mpc_rows.specs.declared.programs.Qp.{Qp}
 use Rattle.mpc_rows.specs.declared.laws.Law.{Law}
 use Rattle.mpc_tree.specs.declared.frontier.Piece.{Piece}
@@ -58,26 +57,26 @@ module _ (qp : Qp) (laws : List Law) where
       let behind = groups_finer gs parts j.0 (omega (arith, same)) (λ i h q inside. each (suc i) h q (omega (arith, inside))) j.2 in
       subst (IsFiner qp laws (g.items ++ all_of gs)) (sym j.1) (finer_both qp laws g.items part.items (all_of gs) j.0 (each 0 g (Ok part) (omega arith)) behind)
 
-module _ (qp : Qp) (laws : List Law) (borders : List (List RowInt)) where
+module _ (qp : Qp) (laws : List Law) where
   pub groups_open : (parts : List (Result (Vec Piece Global) NoRoom)) (pieces : List Piece)
-      → ((i : ℕ) (part : Result (Vec Piece Global) NoRoom) → i < length parts → IfOk (slice_index_or parts i part) (λ v. All (IsOpen qp laws borders) v.items))
-      → AreJoined parts pieces → All (IsOpen qp laws borders) pieces
-  groups_open [] pieces each j = subst (All (IsOpen qp laws borders)) (sym j) (All-nil (IsOpen qp laws borders))
+      → ((i : ℕ) (part : Result (Vec Piece Global) NoRoom) → i < length parts → IfOk (slice_index_or parts i part) (λ v. All (IsOpen qp laws) v.items))
+      → AreJoined parts pieces → All (IsOpen qp laws) pieces
+  groups_open [] pieces each j = subst (All (IsOpen qp laws)) (sym j) (All-nil (IsOpen qp laws))
   groups_open (Err e ∷ parts) pieces each j = absurd j
-  groups_open (Ok part ∷ parts) pieces each (inl j) = subst (All (IsOpen qp laws borders)) (sym j.0) (each 0 (Ok part) (omega arith))
+  groups_open (Ok part ∷ parts) pieces each (inl j) = subst (All (IsOpen qp laws)) (sym j.0) (each 0 (Ok part) (omega arith))
   groups_open (Ok part ∷ parts) pieces each (inr j) =
       let behind = groups_open parts j.0 (λ i q inside. each (suc i) q (omega (arith, inside))) j.2 in
-      subst (All (IsOpen qp laws borders)) (sym j.1) (All-append (IsOpen qp laws borders) part.items j.0 (each 0 (Ok part) (omega arith)) behind)
+      subst (All (IsOpen qp laws)) (sym j.1) (All-append (IsOpen qp laws) part.items j.0 (each 0 (Ok part) (omega arith)) behind)
 
-  front_open : (a b : List Piece) → All (IsOpen qp laws borders) (a ++ b) → All (IsOpen qp laws borders) a
-  front_open [] b o = All-nil (IsOpen qp laws borders)
-  front_open (p ∷ ps) b o = All-cons (IsOpen qp laws borders) p ps (All-head (IsOpen qp laws borders) p (ps ++ b) o) (front_open ps b (All-tail (IsOpen qp laws borders) p (ps ++ b) o))
+  front_open : (a b : List Piece) → All (IsOpen qp laws) (a ++ b) → All (IsOpen qp laws) a
+  front_open [] b o = All-nil (IsOpen qp laws)
+  front_open (p ∷ ps) b o = All-cons (IsOpen qp laws) p ps (All-head (IsOpen qp laws) p (ps ++ b) o) (front_open ps b (All-tail (IsOpen qp laws) p (ps ++ b) o))
 
-  behind_open : (a b : List Piece) → All (IsOpen qp laws borders) (a ++ b) → All (IsOpen qp laws borders) b
+  behind_open : (a b : List Piece) → All (IsOpen qp laws) (a ++ b) → All (IsOpen qp laws) b
   behind_open [] b o = o
-  behind_open (p ∷ ps) b o = behind_open ps b (All-tail (IsOpen qp laws borders) p (ps ++ b) o)
+  behind_open (p ∷ ps) b o = behind_open ps b (All-tail (IsOpen qp laws) p (ps ++ b) o)
 
-  pub group_open : (groups : List (Vec Piece Global)) → All (IsOpen qp laws borders) (all_of groups) → (i : ℕ) (g : Vec Piece Global) → i < length groups → All (IsOpen qp laws borders) (slice_index_or groups i g).items
+  pub group_open : (groups : List (Vec Piece Global)) → All (IsOpen qp laws) (all_of groups) → (i : ℕ) (g : Vec Piece Global) → i < length groups → All (IsOpen qp laws) (slice_index_or groups i g).items
   group_open [] ready i g inside = absurd (omega (arith, inside))
   group_open (h ∷ hs) ready zero g inside = front_open h.items (all_of hs) ready
   group_open (h ∷ hs) ready (suc i) g inside = group_open hs (behind_open h.items (all_of hs) ready) i g (omega (arith, inside))

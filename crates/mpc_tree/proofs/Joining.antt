@@ -3,7 +3,6 @@ use Rattle.std.proofs.Common.{◌≡◌, ℕ, ◌+◌, List, [], ◌∷◌, ◌+
 use Rattle.std.specs.Prelude.{All}
 use Rattle.std.proofs.lemmas.List.{append-nil, append_assoc, length-append}
 use Rattle.std.proofs.lemmas.List.Elements.{All-head, All-tail}
-use Rattle.mpc_linear.specs.declared.integers.RowInt.{RowInt}
 use Rattle.mpc_rows.specs.declared.programs.Qp.{Qp}
 use Rattle.mpc_rows.specs.declared.laws.Law.{Law}
 use Rattle.mpc_rows.specs.declared.places.Place.{Place}
@@ -61,27 +60,27 @@ module _ (qp : Qp) (laws : List Law) where
       (before, refl, ap (place_behind before) (w.2 ∙ ap (λ k. place_behind k own) none ∙ behind_none own))
 
 -- ---- the tree so far, before the pieces that are left
-module _ (qp : Qp) (laws : List Law) (borders : List (List RowInt)) where
+module _ (qp : Qp) (laws : List Law) where
   pub record IsJoined (pieces : List Piece) (tree : List Node) (rest : List Piece) : Type 0 where
     pub filled : (later : List Node) → AreFilled qp laws rest later → AreFilled qp laws pieces (tree ++ later)
     pub wide : (place : Place) → IsWideAmong qp laws rest (length tree + 1) place → IsWideAmong qp laws pieces 1 place
-    pub ready : All (IsOpen qp laws borders) rest
+    pub ready : All (IsOpen qp laws) rest
 
-  pub joined_none : (pieces : List Piece) (tree : List Node) (all : List Piece) → tree ≡ [] → all ≡ pieces → All (IsOpen qp laws borders) pieces → IsJoined pieces tree all
+  pub joined_none : (pieces : List Piece) (tree : List Node) (all : List Piece) → tree ≡ [] → all ≡ pieces → All (IsOpen qp laws) pieces → IsJoined pieces tree all
   joined_none pieces tree all t e o = subst (λ x. IsJoined pieces x all) (sym t) (subst (IsJoined pieces []) (sym e) (record { filled = λ later f. f; wide = λ place w. w; ready = o }))
 
   module _ (pieces : List Piece) (tree : List Node) (rest : List Piece) (piece : Piece) (left : List Piece) (j : IsJoined pieces tree rest) (e : rest ≡ piece ∷ left) where
     own : IsJoined pieces tree (piece ∷ left)
     own = subst (IsJoined pieces tree) e j
 
-    pub piece_open : IsOpen qp laws borders piece
-    piece_open = All-head (IsOpen qp laws borders) piece left own.ready
+    pub piece_open : IsOpen qp laws piece
+    piece_open = All-head (IsOpen qp laws) piece left own.ready
 
     pub joined_more : (nodes new : List Node) → IsOfPiece qp laws piece nodes → new ≡ tree ++ nodes → IsJoined pieces new left
     joined_more nodes new o n = subst (λ x. IsJoined pieces x left) (sym n) (record {
       filled = λ later f. subst (AreFilled qp laws pieces) (sym (append_assoc tree nodes later)) (own.filled (nodes ++ later) (nodes, later, refl, o, f));
       wide = λ place w. own.wide place (inr (nodes, o, subst (λ k. IsWideAmong qp laws left k place) (omega (arith, length-append tree nodes)) w));
-      ready = All-tail (IsOpen qp laws borders) piece left own.ready;
+      ready = All-tail (IsOpen qp laws) piece left own.ready;
     })
 
     pub refused_at : (error moved : TreeError) → IfWide error (IsWideIn qp laws piece 1) → IfWide moved (IsWideBehind (length tree) error) → IfWide moved (IsWideAmong qp laws pieces 1)

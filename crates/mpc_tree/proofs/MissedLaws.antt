@@ -1,5 +1,5 @@
 -- What is known of the laws that miss a cell stays so as the search goes on.
-use Rattle.std.proofs.Common.{◌≡◌, ℕ, zero, suc, ◌-◌, ◌*◌, ◌<◌, ◌≤◌, List, [], ◌∷◌, ◌++◌, length, get_or, map, replicate, set, take, Option, Some, slice_get, refl, sym, ◌∙◌, ap, subst, subst₂, arith, All, ◌⊎◌, inl, inr, ⊎_elim}
+use Rattle.std.proofs.Common.{◌≡◌, ℕ, zero, suc, ◌+◌, ◌-◌, ◌*◌, ◌<◌, ◌≤◌, List, [], ◌∷◌, ◌++◌, length, get_or, map, replicate, set, take, Option, Some, slice_get, refl, sym, ◌∙◌, ap, subst, subst₂, arith, All, ◌⊎◌, inl, inr, ⊎_elim}
 use Rattle.std.proofs.Math.Seq.{take-append-add}
 use Rattle.std.proofs.lemmas.Bool.{cases_eq, cases_lt}
 use Rattle.std.proofs.lemmas.Bool.Decides.{nat_tests}
@@ -121,16 +121,22 @@ module _ (qp : Qp) (borders : List (List RowInt)) (cell : List Row) where
           missed_alike qp border cell (cell ++ r ∷ []) (get_or entries place UNKNOWN) m (omega (arith, m.within, length-append cell (r ∷ []))) (take-append-le (get_or entries place UNKNOWN) cell (r ∷ []) m.within);
     })
 
-    -- a cell that shares some rows, with what these tell
-    pub missed_side : (shared : ℕ) → shared ≤ length cell → (r : Row) (other : List Row) → other ≡ take shared cell ++ r ∷ [] → (new : List ℕ) → new ≡ map (entry_within shared) entries → AreMissed qp borders other new
-    missed_side shared w r other e new f = subst (λ c. AreMissed qp borders c new) (sym e) (subst (AreMissed qp borders (take shared cell ++ r ∷ [])) (sym f) (record {
+    -- a cell that begins with some of the same rows, with what these tell
+    pub missed_turned : (shared : ℕ) (other : List Row) → shared ≤ length other → take shared cell ≡ take shared other → (new : List ℕ) → new ≡ map (entry_within shared) entries → AreMissed qp borders other new
+    missed_turned shared other w e new f = subst (AreMissed qp borders other) (sym f) (record {
       each = λ place border is known.
           let k = get_or entries place UNKNOWN in
           let own = known_within shared k (subst (λ n. n < UNKNOWN) (entry_forgotten shared entries place) known) in
           let same : get_or (map (entry_within shared) entries) place UNKNOWN ≡ k = entry_forgotten shared entries place ∙ own.1 in
           let m = are.each place border is (subst (λ n. n < UNKNOWN) same known) in
-          let long : length (take shared cell) ≡ shared = length-take-le shared cell w in
-          subst (IsMissed qp (take shared cell ++ r ∷ []) border) (sym same)
-          (missed_alike qp border cell (take shared cell ++ r ∷ []) k m (omega (arith, own.0, length-append (take shared cell) (r ∷ [])))
-          (take-append-le k (take shared cell) (r ∷ []) (omega (arith, own.0)) ∙ take-take k shared cell own.0));
-    }))
+          let alike : take k other ≡ take k cell = sym (take-take k shared other own.0) ∙ ap (take k) (sym e) ∙ take-take k shared cell own.0 in
+          subst (IsMissed qp other border) (sym same) (missed_alike qp border cell other k m (omega (arith, own.0)) alike);
+    })
+
+    -- one that shares some rows and has another behind them
+    pub missed_side : (shared : ℕ) → shared ≤ length cell → (r : Row) (other : List Row) → other ≡ take shared cell ++ r ∷ [] → (new : List ℕ) → new ≡ map (entry_within shared) entries → AreMissed qp borders other new
+    missed_side shared w r other e new f =
+        let long : length (take shared cell) ≡ shared = length-take-le shared cell w in
+        let whole : length other ≡ shared + 1 = ap length e ∙ length-append (take shared cell) (r ∷ []) ∙ ap (λ n. n + 1) long in
+        let alike : take shared (take shared cell ++ r ∷ []) ≡ take shared cell = take-append-le shared (take shared cell) (r ∷ []) (omega (arith, long)) ∙ take-take shared shared cell (omega arith) in
+        missed_turned shared other (omega (arith, whole)) (sym (ap (take shared) e ∙ alike)) new f

@@ -221,17 +221,17 @@ module _ (qp : Qp) (laws : List Law) where
   pub finer_one : (x y : Piece) → Becomes qp laws x y → IsFiner qp laws (x ∷ []) (y ∷ [])
   finer_one x y b = become_finer (x ∷ []) (y ∷ []) (b, tt)
 
-  still_open : (borders : List (List RowInt)) (x y : Piece) → Becomes qp laws x y → IsOpen qp laws borders x → IsOpen qp laws borders y
-  still_open borders x (Closed nodes) b h = tt
-  still_open borders x (Open o) b h = subst (IsOpen qp laws borders) (b.left o refl) h
-  still_open borders x (Refused place) b h = tt
+  still_open : (x y : Piece) → Becomes qp laws x y → IsOpen qp laws x → IsOpen qp laws y
+  still_open x (Closed nodes) b h = tt
+  still_open x (Open o) b h = subst (IsOpen qp laws) (b.left o refl) h
+  still_open x (Refused place) b h = tt
 
-  pub become_open : (borders : List (List RowInt)) (before now : List Piece) → AllBecome before now → All (IsOpen qp laws borders) before → All (IsOpen qp laws borders) now
-  become_open borders [] [] h o = o
-  become_open borders [] (y ∷ ys) h o = absurd h
-  become_open borders (x ∷ xs) [] h o = absurd h
-  become_open borders (x ∷ xs) (y ∷ ys) h o =
-      All-cons (IsOpen qp laws borders) y ys (still_open borders x y h.0 (All-head (IsOpen qp laws borders) x xs o)) (become_open borders xs ys h.1 (All-tail (IsOpen qp laws borders) x xs o))
+  pub become_open : (before now : List Piece) → AllBecome before now → All (IsOpen qp laws) before → All (IsOpen qp laws) now
+  become_open [] [] h o = o
+  become_open [] (y ∷ ys) h o = absurd h
+  become_open (x ∷ xs) [] h o = absurd h
+  become_open (x ∷ xs) (y ∷ ys) h o =
+      All-cons (IsOpen qp laws) y ys (still_open x y h.0 (All-head (IsOpen qp laws) x xs o)) (become_open xs ys h.1 (All-tail (IsOpen qp laws) x xs o))
 
   laid_at : (before now : List Piece) (i : ℕ) (x y : Piece) → slice_get before i ≡ Some x → Becomes qp laws x y → AllBecome before now → AllBecome before (slice_set now i y)
   laid_at [] now i x y is b h = absurd (cc)

@@ -15,40 +15,36 @@ use Rattle.mpc_tree.specs.declared.runs.OpenCell.{OpenCell}
 use Rattle.mpc_tree.specs.Borders.{AreBorders}
 use Rattle.mpc_tree.specs.CellRuns.{IsRunOf}
 use Rattle.mpc_tree.specs.Growth.{IsOpenCell, IsReady, IsSplitAt, cell_of}
-use Rattle.mpc_tree.specs.Missed.{AreMissed}
 use Rattle.mpc_tree.specs.Pieces.{AreSides, IsOpen, IsFiner}
 use Rattle.mpc_tree.specs.Trees.{Cell}
 use Rattle.mpc_tree.proofs.CellRuns.{narrowed}
 use Rattle.mpc_tree.proofs.Dividing.{yes_ready, no_ready, rows_read, row_read}
-use Rattle.mpc_tree.proofs.MissedLaws.{missed_longer}
 use Rattle.mpc_tree.proofs.PieceLemmas.{finer_between, finer_split}
 
 module _ (qp : Qp) (laws : List Law) (borders : List (List RowInt)) (are : AreBorders qp laws borders) (parent : OpenCell) (place i : ℕ) (s : IsSplitAt qp laws borders (cell_of parent) place i) (row : RowInt) (same : row ≡ s.row) (broken : Option LinearSystem) (pieces : List Piece) (p : AreSides parent row broken place pieces) where
   abbrev q : AreSides parent s.row broken place pieces
   q = subst (λ r. AreSides parent r broken place pieces) same p
 
-  module _ (o : IsOpenCell qp laws borders parent) where
-    yes_open : IsOpenCell qp laws borders q.yes
+  module _ (o : IsOpenCell qp laws parent) where
+    yes_open : IsOpenCell qp laws q.yes
     yes_open =
         let rows : q.yes.cell.rows.items ≡ parent.cell.rows.items ++ whole_row s.row ∷ [] = ap (λ (c : Cell). c.rows) q.yes_cell in
         record {
           ready = subst (IsReady qp laws) (sym q.yes_cell) (yes_ready qp laws borders are (cell_of parent) place i s o.ready.width);
           run = subst (λ x. IsRunOf qp x q.yes.cell.run) (sym rows) (narrowed qp parent.cell.rows.items parent.cell.run o.run (whole_row s.row) q.yes.cell.run q.yes_run);
-          missed = subst (AreMissed qp borders q.yes.cell.rows.items) (sym q.yes_missed) (missed_longer qp borders parent.cell.rows.items parent.missed o.missed (whole_row s.row) q.yes.cell.rows.items rows);
         }
 
-    no_open : CellTheorems → IsRunOf qp (parent.cell.rows.items ++ broken_row s.row ∷ []) broken → IsOpenCell qp laws borders q.no
+    no_open : CellTheorems → IsRunOf qp (parent.cell.rows.items ++ broken_row s.row ∷ []) broken → IsOpenCell qp laws q.no
     no_open points fails =
         let rows : q.no.cell.rows.items ≡ parent.cell.rows.items ++ broken_row s.row ∷ [] = ap (λ (c : Cell). c.rows) q.no_cell in
         record {
           ready = subst (IsReady qp laws) (sym q.no_cell) (no_ready qp laws borders are (cell_of parent) place i s points o.ready.width);
           run = subst₂ (IsRunOf qp) (sym rows) (sym q.no_run) fails;
-          missed = subst (AreMissed qp borders q.no.cell.rows.items) (sym q.no_missed) (missed_longer qp borders parent.cell.rows.items parent.missed o.missed (broken_row s.row) q.no.cell.rows.items rows);
         }
 
-    pub split_open : CellTheorems → IsRunOf qp (parent.cell.rows.items ++ broken_row s.row ∷ []) broken → All (IsOpen qp laws borders) pieces
-    split_open points fails = subst (All (IsOpen qp laws borders)) (sym q.are)
-        (All-cons (IsOpen qp laws borders) (Closed (Split s.row ∷ [])) (Open q.yes ∷ Open q.no ∷ []) tt (All-cons (IsOpen qp laws borders) (Open q.yes) (Open q.no ∷ []) yes_open (All-cons (IsOpen qp laws borders) (Open q.no) [] (no_open points fails) (All-nil (IsOpen qp laws borders)))))
+    pub split_open : CellTheorems → IsRunOf qp (parent.cell.rows.items ++ broken_row s.row ∷ []) broken → All (IsOpen qp laws) pieces
+    split_open points fails = subst (All (IsOpen qp laws)) (sym q.are)
+        (All-cons (IsOpen qp laws) (Closed (Split s.row ∷ [])) (Open q.yes ∷ Open q.no ∷ []) tt (All-cons (IsOpen qp laws) (Open q.yes) (Open q.no ∷ []) yes_open (All-cons (IsOpen qp laws) (Open q.no) [] (no_open points fails) (All-nil (IsOpen qp laws)))))
 
   pub split_finer : IsFiner qp laws (Open parent ∷ []) pieces
   split_finer = subst (IsFiner qp laws (Open parent ∷ [])) (sym q.are) (finer_split qp laws parent place s.row s.divides q.yes q.no q.yes_cell q.no_cell)
@@ -58,8 +54,8 @@ pub same_row : (qp : Qp) (laws : List Law) (borders : List (List RowInt)) (are :
 same_row qp laws borders are cell place i s border slice row b e r = row_read qp laws borders are cell place i s slice row (rows_read qp laws borders are cell place i s border slice b e) r
 
 -- ---- a cell that isn't divided
-pub one_open : (qp : Qp) (laws : List Law) (borders : List (List RowInt)) (pieces : List Piece) (piece : Piece) → pieces ≡ piece ∷ [] → IsOpen qp laws borders piece → All (IsOpen qp laws borders) pieces
-one_open qp laws borders pieces piece p o = subst (All (IsOpen qp laws borders)) (sym p) (All-cons (IsOpen qp laws borders) piece [] o (All-nil (IsOpen qp laws borders)))
+pub one_open : (qp : Qp) (laws : List Law) (pieces : List Piece) (piece : Piece) → pieces ≡ piece ∷ [] → IsOpen qp laws piece → All (IsOpen qp laws) pieces
+one_open qp laws pieces piece p o = subst (All (IsOpen qp laws)) (sym p) (All-cons (IsOpen qp laws) piece [] o (All-nil (IsOpen qp laws)))
 
 -- ---- lists of pieces, as they are pushed
 pub three : (e a b all : List Piece) (x y z : Piece) → e ≡ [] → a ≡ e ++ x ∷ [] → b ≡ a ++ y ∷ [] → all ≡ b ++ z ∷ [] → all ≡ x ∷ (y ∷ (z ∷ []))

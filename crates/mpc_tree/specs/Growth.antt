@@ -23,7 +23,6 @@ use Rattle.mpc_tree.specs.declared.runs.OpenCell.{OpenCell}
 use Rattle.mpc_tree.specs.CellRuns.{IsRunOf}
 use Rattle.mpc_tree.specs.Cells.{RegionMeets, NoneMeetsBefore, IsFirstToMeet, FailsOn, NoneFailsBefore}
 use Rattle.mpc_tree.specs.LeafCerts.{AreCertsOf, HasItsCerts}
-use Rattle.mpc_tree.specs.Missed.{AreMissed}
 use Rattle.mpc_tree.specs.NodeRuns.{MeetsFit, HoldsFit, DividesAndFits, EndsAndFits}
 use Rattle.mpc_tree.specs.Trees.{Cell, IsTreeWhere}
 use Rattle.mpc_tree.specs.WideRuns.{IsWideHold}
@@ -38,11 +37,10 @@ pub record IsReady (qp : Qp) (laws : List Law) (cell : Cell) : Type 0 where
 abbrev pub cell_of : OpenCell → Cell
 cell_of o = record { rows = o.cell.rows.items; next = o.next }
 
--- it is ready, and its run and its table are its own
-pub record IsOpenCell (qp : Qp) (laws : List Law) (borders : List (List RowInt)) (o : OpenCell) : Type 0 where
+-- it is ready, and its run is its own
+pub record IsOpenCell (qp : Qp) (laws : List Law) (o : OpenCell) : Type 0 where
   pub ready : IsReady qp laws (cell_of o)
   pub run : IsRunOf qp o.cell.rows.items o.cell.run
-  pub missed : AreMissed qp borders o.cell.rows.items o.missed
 
 -- each state with admissible unknowns lies in the region of one of the laws
 pub record RegionsCover (qp : Qp) (laws : List Law) : Type 0 where

@@ -6,6 +6,7 @@ use Rattle.mpc_rows.specs.declared.systems.Row.{Row}
 use Rattle.mpc_simplex.specs.Answer.{HasPoint}
 use Rattle.mpc_systems.specs.Systems.{meet_system}
 use Rattle.mpc_tree.specs.declared.missed.TheConstants.{UNKNOWN}
+use Rattle.mpc_tree.specs.declared.missed.Search.{Search}
 use Rattle.mpc_tree.specs.declared.nodes.Region.{Region}
 use Rattle.mpc_tree.specs.declared.nodes.Region.TheVariants.{Met, Missed}
 
@@ -26,3 +27,19 @@ pub record AreMissed (qp : Qp) (borders : List (List RowInt)) (cell : List Row) 
 -- an entry, if it is of rows among the first so many
 abbrev pub entry_within : ℕ → ℕ → ℕ
 entry_within shared k = cond (nat_lt shared k) UNKNOWN k
+
+-- what is kept of a search holds for the cell with these rows
+pub record IsSearchOf (qp : Qp) (borders : List (List RowInt)) (cell : List Row) (s : Search) : Type 0 where
+  pub missed : AreMissed qp borders cell s.missed
+
+-- it holds for the cell of the search
+abbrev pub IsSearch : Qp → List (List RowInt) → Search → Type 0
+IsSearch qp borders s = IsSearchOf qp borders s.rows.items s
+
+-- it holds whatever the laws
+abbrev pub IsAnySearch : Search → Type 0
+IsAnySearch s = (qp : Qp) (borders : List (List RowInt)) → IsSearch qp borders s
+
+-- what the second search keeps holds for the cell with these rows, where what the first keeps holds for its own
+abbrev pub IsTurned : Search → List Row → Search → Type 0
+IsTurned before cell s = (qp : Qp) (borders : List (List RowInt)) → IsSearch qp borders before → IsSearchOf qp borders cell s

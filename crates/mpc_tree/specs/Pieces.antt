@@ -27,17 +27,15 @@ pub record AreSides (parent : OpenCell) (row : RowInt) (broken : Option LinearSy
   pub are : pieces ≡ Closed (Split row ∷ []) ∷ (Open yes ∷ (Open no ∷ []))
   pub yes_cell : cell_of yes ≡ yes_side (cell_of parent) place row
   pub yes_run : IsRunWith parent.cell.run (whole_row row) yes.cell.run
-  pub yes_missed : yes.missed ≡ parent.missed
   pub no_cell : cell_of no ≡ no_side (cell_of parent) place row
   pub no_run : no.cell.run ≡ broken
-  pub no_missed : no.missed ≡ parent.missed
 
 module _ (qp : Qp) (laws : List Law) where
   -- if the piece is a cell, its search may begin
-  abbrev pub IsOpen : List (List RowInt) → Piece → Type 0
-  IsOpen borders (Closed nodes) = ⊤
-  IsOpen borders (Open o) = IsOpenCell qp laws borders o
-  IsOpen borders (Refused place) = ⊤
+  abbrev pub IsOpen : Piece → Type 0
+  IsOpen (Closed nodes) = ⊤
+  IsOpen (Open o) = IsOpenCell qp laws o
+  IsOpen (Refused place) = ⊤
 
   -- the nodes that stand for a piece, none for a cell that is refused
   abbrev pub IsOfPiece : Piece → List Node → Type 0

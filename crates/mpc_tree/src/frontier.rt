@@ -1,14 +1,15 @@
 //! The upper part of the tree, which is grown in preorder at first and then breadth-first, with the cells that are left open below.
 
-ghost use Rattle.std.specs.Prelude.{◌≡◌, ◌<◌, ◌≤◌, ◌^◌, ◌∷◌, [], All, IfOk, IfSome, IsTrue, length, unsigned_abs};
+ghost use Rattle.std.specs.Prelude.{◌≡◌, ◌<◌, ◌≤◌, ◌^◌, ◌∷◌, [], All, IfOk, IfSome, IsTrue, OnOk, length, unsigned_abs};
 ghost use Rattle.mpc_linear.specs.Whole.{AreSmall};
 ghost use Rattle.mpc_tree.specs.Borders.{AreBorders};
 ghost use Rattle.mpc_tree.specs.Growth.{IsOpenCell, RegionsCover};
+ghost use Rattle.mpc_tree.specs.Missed.{IsSearch};
 ghost use Rattle.mpc_tree.specs.Pieces.{AreSides, AreJoined, EndsRefused, IsOpen, IsFiner, all_of};
 
 use crate::borders::Border;
 use crate::errors::TreeError;
-use crate::missed::{Missed, Search};
+use crate::missed::Search;
 use crate::nodes::{Placed, Visit, place_node};
 use crate::runs::{KeptCell, OpenCell, copied_rows};
 use crate::threads::Grow;
@@ -18,7 +19,6 @@ use mpc_rows::{LawTable, Node, Place, Qp, Tree};
 use mpc_simplex::Beginning;
 use mpc_systems::{broken_row, cell_theorems, whole_row};
 use std::alloc::Global;
-use std::mem::swap;
 
 /// How many open cells are enough: of fewer, one may take most of the time on four threads, and more would leave
 /// more of the tree to rounds, each of which takes as long as its slowest group.
@@ -60,9 +60,8 @@ fn closed(alloc: Global, node: Node) -> Result<Piece, NoMemory>
     Ok(Piece::Closed(nodes))
 }
 
-/// A cell that is divided by a row of the law at this place: the split and both sides, each with rows
-/// and a table of its own, the no side with the run of where the row fails. What is known of the laws that
-/// the cell misses is known of both sides, since they begin with its rows.
+/// A cell that is divided by a row of the law at this place: the split and both sides, each with rows of
+/// its own, the no side with the run of where the row fails.
 fn split(
     alloc: Global,
     parent: OpenCell,
@@ -81,7 +80,6 @@ fn split(
     let no = OpenCell {
         cell: KeptCell { rows, run: broken },
         next: place + 1,
-        missed: parent.missed.copy(alloc)?,
     };
     let mut yes = parent;
     yes.cell.narrow(alloc, whole_row(alloc, row)?)?;
@@ -94,32 +92,35 @@ fn split(
 }
 
 /// The pieces that a cell is divided into: a leaf, a split with both sides open, or a refusal. The search
-/// is lent the cell's table, and what it leaves there is that of the sides.
+/// turns to the cell.
 fn divided_cell(
     alloc: Global,
     kept: &mut Search,
     qp: &Qp,
     laws: &LawTable,
     borders: &[Border],
-    mut parent: OpenCell,
+    parent: OpenCell,
 ) -> Result<Vec<Piece>, NoMemory>
     requires few { length laws.now < 2 ^ 32 }
     requires borders { AreBorders qp.now laws.now borders.now }
     requires cover { RegionsCover qp.now laws.now }
-    requires parent { IsOpenCell qp.now laws.now borders.now parent }
-    ensures open { IfOk result (λ pieces. All (IsOpen qp.now laws.now borders.now) pieces.items) }
+    requires parent { IsOpenCell qp.now laws.now parent }
+    requires kept { IsSearch qp.now borders.now kept.old }
+    ensures open { IfOk result (λ pieces. All (IsOpen qp.now laws.now) pieces.items) }
     ensures finer { IfOk result (λ pieces. IsFiner qp.now laws.now (Piece.Open parent ∷ []) pieces.items) }
+    ensures kept { OnOk result (IsSearch qp.now borders.now kept.new) }
 {
     cell_theorems();
-    swap(&mut kept.missed, &mut parent.missed);
+    kept.turn_to(&parent.cell.rows);
     let at = Visit {
         next: parent.next,
         held: 0,
         node: 1,
     };
-    match place_node(alloc, kept, qp, laws, borders, &parent.cell, at) {
+    let placed = place_node(alloc, kept, qp, laws, borders, &parent.cell, at);
+    kept.rows = copied_rows(alloc, &parent.cell.rows)?;
+    match placed {
         Ok(Placed::Split { place, row, run }) => {
-            swap(&mut kept.missed, &mut parent.missed);
             let row = &borders[place].as_slice()[row];
             split(alloc, parent, row, run, place)
         }
@@ -153,9 +154,11 @@ fn divided(
     requires few { length laws.now < 2 ^ 32 }
     requires borders { AreBorders qp.now laws.now borders.now }
     requires cover { RegionsCover qp.now laws.now }
-    requires open { IsOpen qp.now laws.now borders.now piece }
-    ensures open { IfOk result (λ pieces. All (IsOpen qp.now laws.now borders.now) pieces.items) }
+    requires open { IsOpen qp.now laws.now piece }
+    requires kept { IsSearch qp.now borders.now kept.old }
+    ensures open { IfOk result (λ pieces. All (IsOpen qp.now laws.now) pieces.items) }
     ensures finer { IfOk result (λ pieces. IsFiner qp.now laws.now (piece ∷ []) pieces.items) }
+    ensures kept { OnOk result (IsSearch qp.now borders.now kept.new) }
 {
     if *left == 0 {
         return one(alloc, piece);
@@ -183,9 +186,11 @@ fn finer(
     requires few { length laws.now < 2 ^ 32 }
     requires borders { AreBorders qp.now laws.now borders.now }
     requires cover { RegionsCover qp.now laws.now }
-    requires open { All (IsOpen qp.now laws.now borders.now) pieces.items }
-    ensures open { IfOk result (λ finer. All (IsOpen qp.now laws.now borders.now) finer.items) }
+    requires open { All (IsOpen qp.now laws.now) pieces.items }
+    requires kept { IsSearch qp.now borders.now kept.old }
+    ensures open { IfOk result (λ finer. All (IsOpen qp.now laws.now) finer.items) }
     ensures finer { IfOk result (λ finer. IsFiner qp.now laws.now pieces.items finer.items) }
+    ensures kept { OnOk result (IsSearch qp.now borders.now kept.new) }
 {
     let mut finer = Vec::new(alloc);
     let mut left = most;
@@ -210,11 +215,11 @@ pub fn all_divided(
     requires few { length laws.now < 2 ^ 32 }
     requires borders { AreBorders qp.now laws.now borders.now }
     requires cover { RegionsCover qp.now laws.now }
-    requires open { All (IsOpen qp.now laws.now borders.now) pieces.items }
-    ensures open { IfOk result (λ finer. All (IsOpen qp.now laws.now borders.now) finer.items) }
+    requires open { All (IsOpen qp.now laws.now) pieces.items }
+    ensures open { IfOk result (λ finer. All (IsOpen qp.now laws.now) finer.items) }
     ensures finer { IfOk result (λ finer. IsFiner qp.now laws.now pieces.items finer.items) }
 {
-    let mut kept = Search::new(alloc, Missed::new(alloc, 0)?);
+    let mut kept = Search::new(alloc, laws.len())?;
     finer(alloc, &mut kept, qp, laws, borders, pieces, usize::MAX)
 }
 
@@ -299,11 +304,11 @@ pub fn pieces_of<G: Grow>(
     requires few { length laws.now < 2 ^ 32 }
     requires borders { AreBorders qp.now laws.now borders.now }
     requires cover { RegionsCover qp.now laws.now }
-    requires root { IsOpenCell qp.now laws.now borders.now root }
-    ensures open { IfOk result (λ pieces. All (IsOpen qp.now laws.now borders.now) pieces.items) }
+    requires root { IsOpenCell qp.now laws.now root }
+    ensures open { IfOk result (λ pieces. All (IsOpen qp.now laws.now) pieces.items) }
     ensures finer { IfOk result (λ pieces. IsFiner qp.now laws.now (Piece.Open root ∷ []) pieces.items) }
 {
-    let mut kept = Search::new(alloc, Missed::new(alloc, 0)?);
+    let mut kept = Search::new(alloc, laws.len())?;
     let mut pieces = Vec::new(alloc);
     pieces.push(Piece::Open(root))?;
     for round in 0..MOST_ROUNDS {

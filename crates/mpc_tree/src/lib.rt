@@ -28,7 +28,6 @@ mod threads;
 
 use borders::all_borders;
 pub use errors::TreeError;
-use missed::Missed;
 use mpc_cover::cover_theorems;
 use mpc_rows::{LawTable, Qp, Tree};
 use mpc_sets::count_theorems;
@@ -69,11 +68,6 @@ pub fn build<G: Grow>(by: &G, alloc: Global, qp: &Qp, laws: &LawTable) -> Result
     count_theorems();
     let borders = all_borders(alloc, qp, laws)?;
     let cell = KeptCell::of(alloc, qp, Vec::new(alloc))?;
-    let missed = Missed::new(alloc, borders.len())?;
-    let root = OpenCell {
-        cell,
-        next: 0,
-        missed,
-    };
+    let root = OpenCell { cell, next: 0 };
     grown_by(by, alloc, qp, laws, &borders, root)
 }

@@ -1,9 +1,11 @@
 //! What a search keeps from one node to the next.
 
 ghost use Rattle.std.specs.Prelude.{◌≡◌, ◌<◌, ◌↔◌, IfOk, IsTrue, get_or, map, replicate, slice_set};
-ghost use Rattle.mpc_tree.specs.Missed.{entry_within};
+ghost use Rattle.mpc_tree.specs.Missed.{IsAnySearch, IsTurned, entry_within};
 
+use crate::runs::shared_rows;
 use mpc_frac::NoMemory;
+use mpc_rows::Row;
 use mpc_simplex::Workspace;
 use std::alloc::Global;
 use std::marker::Model;
@@ -42,14 +44,6 @@ impl Missed {
         Ok(Missed { first })
     }
 
-    /// The same table once more.
-    pub fn copy(&self, alloc: Global) -> Result<Self, NoMemory>
-        ensures { IfOk result (λ copy. copy ≡ self.now) }
-    {
-        let first = self.first.to_vec(alloc)?;
-        Ok(Missed { first })
-    }
-
     /// Whether the entry of the law at this place, from 0, is known.
     pub fn knows(&self, place: usize) -> bool
         ensures { IsTrue result ↔ (get_or self.now place UNKNOWN < UNKNOWN) }
@@ -76,21 +70,34 @@ impl Missed {
     }
 }
 
-/// What is kept while cells are searched one after another.
+/// What is kept while cells are searched one after another: a workspace, and what is known of the laws that the
+/// cell with these rows misses.
 #[derive(Drop)]
 pub struct Search {
     pub work: Workspace,
+    pub rows: Vec<Row>,
     pub missed: Missed,
 }
 
 impl Search {
-    /// With the table of a cell.
-    pub fn new(alloc: Global, missed: Missed) -> Self
-        ensures { result.missed ≡ missed }
+    /// Before any cell, for so many laws.
+    pub fn new(alloc: Global, laws: usize) -> Result<Self, NoMemory>
+        ensures { IfOk result IsAnySearch }
     {
-        Search {
+        let missed = Missed::new(alloc, laws)?;
+        Ok(Search {
             work: Workspace::new(alloc),
+            rows: Vec::new(alloc),
             missed,
-        }
+        })
+    }
+
+    /// Turns to the cell with these rows: of what is known of the last one, that stays which needs only rows that
+    /// both begin with. The rows themselves are left to the caller.
+    pub fn turn_to(&mut self, rows: &[Row])
+        ensures { IsTurned self.old rows.now self.new }
+    {
+        let shared = shared_rows(&self.rows, rows);
+        self.missed.forget(shared);
     }
 }

@@ -1,6 +1,6 @@
 //! What stands at one node of the tree.
 
-ghost use Rattle.std.specs.Prelude.{◌≡◌, ◌+◌, ◌<◌, ◌≤◌, ◌^◌, Some, All, IsTrue, IfOk, IfErr, IfSome, MatchResult, OnOk, length};
+ghost use Rattle.std.specs.Prelude.{◌≡◌, ◌+◌, ◌<◌, ◌≤◌, ◌^◌, Some, All, IsTrue, IfOk, IfErr, IfSome, MatchResult, length};
 ghost use Rattle.mpc_rows.specs.RunWidth.{RunFits};
 ghost use Rattle.mpc_simplex.specs.Answer.{HasPoint, IfWide as IfRunWide};
 ghost use Rattle.mpc_systems.specs.Writing.{HasBoxWidth, IsOfSize, AreOfSize};
@@ -11,7 +11,7 @@ ghost use Rattle.mpc_tree.specs.Cells.{NoneMeetsBefore};
 ghost use Rattle.mpc_tree.specs.Ends.{IsEndOf};
 ghost use Rattle.mpc_tree.specs.Growth.{RegionsCover, NextFits, MeetsNext, HoldFirst, AreLeftOut, IsLeftOutOf, IsFirstMeeting, IsHeldBehind, IsHeld, NamesWideRow, IsPlaced};
 ghost use Rattle.mpc_tree.specs.LeafCerts.{IsCertOf, AreCertsOf};
-ghost use Rattle.mpc_tree.specs.Missed.{AreMissed, IsRegion};
+ghost use Rattle.mpc_tree.specs.Missed.{IsRegion, IsSearchOf};
 ghost use Rattle.mpc_tree.specs.NodeRuns.{HoldsFit};
 ghost use Rattle.mpc_systems.specs.Systems.{meet_system, hold_system, joint_system};
 ghost use Rattle.mpc_tree.specs.WideRuns.{IsWideAt};
@@ -219,12 +219,12 @@ fn first_meeting(
     requires cell { HasBoxWidth qp.now cell.now.rows.items }
     requires run { IsRunOf qp.now cell.now.rows.items cell.now.run }
     requires open { IsOpenAt cell.now.run kept.old.work }
-    requires missed { AreMissed qp.now borders.now cell.now.rows.items kept.old.missed }
+    requires kept { IsSearchOf qp.now borders.now cell.now.rows.items kept.old }
     requires before { NoneMeetsBefore qp.now laws.now cell.now.rows.items at.next }
     requires known { 0 < at.held → MeetsNext qp.now laws.now (record { rows = cell.now.rows.items; next = at.next }) }
     requires held { 0 < at.held → HoldFirst qp.now borders.now (record { rows = cell.now.rows.items; next = at.next }) at.held }
     ensures open { IsOpenAt cell.now.run kept.new.work }
-    ensures missed { OnOk result (AreMissed qp.now borders.now cell.now.rows.items kept.new.missed) }
+    ensures kept { IsSearchOf qp.now borders.now cell.now.rows.items kept.new }
     ensures first { IfOk result (λ o. IsFirstMeeting qp.now laws.now (record { rows = cell.now.rows.items; next = at.next }) o) }
     ensures left_out { IfOk result (λ o. IfSome o (λ met. IsLeftOutOf qp.now borders.now (record { rows = cell.now.rows.items; next = met.place }) met.held)) }
     ensures below { IfOk result (λ o. IfSome o (λ met. (at.next ≤ met.place) × (met.place < length laws.now))) }
@@ -387,11 +387,11 @@ pub fn place_node(
     requires cell { HasBoxWidth qp.now cell.now.rows.items }
     requires run { IsRunOf qp.now cell.now.rows.items cell.now.run }
     requires cover { RegionsCover qp.now laws.now }
-    requires missed { AreMissed qp.now borders.now cell.now.rows.items kept.old.missed }
+    requires kept { IsSearchOf qp.now borders.now cell.now.rows.items kept.old }
     requires before { NoneMeetsBefore qp.now laws.now cell.now.rows.items at.next }
     requires known { 0 < at.held → MeetsNext qp.now laws.now (record { rows = cell.now.rows.items; next = at.next }) }
     requires held { 0 < at.held → HoldFirst qp.now borders.now (record { rows = cell.now.rows.items; next = at.next }) at.held }
-    ensures missed { OnOk result (AreMissed qp.now borders.now cell.now.rows.items kept.new.missed) }
+    ensures kept { IsSearchOf qp.now borders.now cell.now.rows.items kept.new }
     ensures placed { IfOk result (λ p. IsPlaced qp.now laws.now borders.now (record { rows = cell.now.rows.items; next = at.next }) p) }
     ensures wide { IfErr result (λ e. IfWide e (IsWideAt qp.now laws.now (record { rows = cell.now.rows.items; next = at.next }) at.node)) }
 {

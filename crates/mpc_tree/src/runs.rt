@@ -1,10 +1,9 @@
 //! Cells with the runs that are kept of them.
 
-ghost use Rattle.std.specs.Prelude.{◌≡◌, ◌++◌, ◌∷◌, [], IfOk, IfSome, OnOk, length};
+ghost use Rattle.std.specs.Prelude.{◌≡◌, ◌≤◌, ◌++◌, ◌∷◌, [], IfOk, IfSome, IsTrue, OnOk, length, take};
 ghost use Rattle.mpc_systems.specs.Writing.{HasBoxWidth};
 ghost use Rattle.mpc_tree.specs.CellRuns.{IsOpenAt, IsRunOf, IsRunWith};
 
-use crate::missed::Missed;
 use mpc_frac::NoMemory;
 use mpc_rows::{Qp, Row};
 use mpc_simplex::{Beginning, Workspace};
@@ -19,13 +18,11 @@ pub struct KeptCell {
     pub run: Option<Beginning>,
 }
 
-/// A cell whose tree isn't built, the place of the law with which its search goes on, and what is known
-/// of the laws that its cell misses.
+/// A cell whose tree isn't built, and the place of the law with which its search goes on.
 #[derive(Drop)]
 pub struct OpenCell {
     pub cell: KeptCell,
     pub next: usize,
-    pub missed: Missed,
 }
 
 /// The same rows once more.
@@ -39,6 +36,27 @@ pub fn copied_rows(alloc: Global, rows: &[Row]) -> Result<Vec<Row>, NoMemory>
         };
     }
     Ok(copy)
+}
+
+/// Whether both rows are the same.
+fn is_same(one: &Row, other: &Row) -> bool
+    ensures { IsTrue result → one.now ≡ other.now }
+{
+    one.strict == other.strict && one.b == other.b && one.a.as_slice() == other.a.as_slice()
+}
+
+/// How many first rows the two lists have in common.
+pub fn shared_rows(one: &[Row], other: &[Row]) -> usize
+    ensures within { (result ≤ length one.now) × (result ≤ length other.now) }
+    ensures alike { take result one.now ≡ take result other.now }
+{
+    let most = one.len().min(other.len());
+    for place in 0..most {
+        if !is_same(&one[place], &other[place]) {
+            return place;
+        }
+    }
+    most
 }
 
 /// The run with one more row. Nothing where there is none, or where whole numbers don't serve.

@@ -1,10 +1,11 @@
 //! A tree whose open cells are built at once.
 
-ghost use Rattle.std.specs.Prelude.{◌≡◌, ◌<◌, ◌^◌, All, IfOk, IfErr, IfSome, length, slice_set};
+ghost use Rattle.std.specs.Prelude.{◌≡◌, ◌<◌, ◌^◌, All, IfOk, IfErr, IfSome, OnOk, length, slice_set};
 ghost use Rattle.mpc_tree.specs.Borders.{AreBorders};
-ghost use Rattle.mpc_tree.specs.Causes.{IfWide};
+ghost use Rattle.mpc_tree.specs.Causes.{IfRefused, IfWide};
 ghost use Rattle.mpc_tree.specs.Growth.{IsOpenCell, RegionsCover, IsBuilt, cell_of};
-ghost use Rattle.mpc_tree.specs.Pieces.{Becomes, IsOpen, IsOfPiece, IsWideIn, AreFilled, IsWideAmong, IsDrawn, IsFiner, with_drawn};
+ghost use Rattle.mpc_tree.specs.Missed.{IsSearch};
+ghost use Rattle.mpc_tree.specs.Pieces.{IsOpen, IsOfPiece, IsWideIn, AreFilled, IsWideAmong, IsDrawn, IsFiner, with_drawn};
 ghost use Rattle.mpc_tree.specs.Joins.{place_behind, IsWideBehind};
 ghost use Rattle.mpc_tree.specs.WideRuns.{IsFirstWide};
 
@@ -12,6 +13,7 @@ use crate::borders::Border;
 use crate::errors::{Stop, TreeError};
 use crate::frontier::{Piece, all_divided, groups, joined_groups, open_cells, pieces_of};
 use crate::growth::{grown, grown_alone};
+use crate::missed::Search;
 use crate::refusals::{Refusals, Watch, is_called_off};
 use crate::runs::{KeptCell, OpenCell, copied_rows};
 use mpc_forks::{map_indices, map_vec};
@@ -38,43 +40,39 @@ pub struct Drawn {
     pub built: Piece,
 }
 
-/// What becomes of an open cell that others read too, whose run is begun anew: its tree, or its refusal,
-/// which calls off what comes behind it. Nothing where it is called off itself.
+/// The tree of an open cell that others read too, whose run is begun anew, unless it is called off.
 fn drawn_cell(
     alloc: Global,
+    kept: &mut Search,
     qp: &Qp,
     laws: &LawTable,
     borders: &[Border],
     root: &OpenCell,
     watch: Watch,
-) -> Result<Option<Piece>, NoMemory>
+) -> Result<Tree, Stop>
     requires few { length laws.now < 2 ^ 32 }
     requires borders { AreBorders qp.now laws.now borders.now }
     requires cover { RegionsCover qp.now laws.now }
-    requires root { IsOpenCell qp.now laws.now borders.now root.now }
-    ensures { IfOk result (λ o. IfSome o (Becomes qp.now laws.now (Piece.Open root.now))) }
+    requires root { IsOpenCell qp.now laws.now root.now }
+    requires kept { IsSearch qp.now borders.now kept.old }
+    ensures built { IfOk result (IsBuilt qp.now laws.now (cell_of root.now)) }
+    ensures wide { IfErr result (λ e. IfRefused e (IsFirstWide qp.now laws.now (cell_of root.now) 1)) }
+    ensures kept { OnOk result (IsSearch qp.now borders.now kept.new) }
 {
     if is_called_off(&Some(watch)) {
-        return Ok(None);
+        return Err(Stop::GivenUp);
     }
+    let rows = copied_rows(alloc, &root.cell.rows)?;
     let own = OpenCell {
-        cell: KeptCell::of(alloc, qp, copied_rows(alloc, &root.cell.rows)?)?,
+        cell: KeptCell::of(alloc, qp, rows)?,
         next: root.next,
-        missed: root.missed.copy(alloc)?,
     };
-    match grown(alloc, qp, laws, borders, own, Some(watch)) {
-        Ok(tree) => Ok(Some(Piece::Closed(tree))),
-        Err(Stop::Refused(TreeError::Wide(place))) => {
-            watch.refusals.note(watch.piece);
-            Ok(Some(Piece::Refused(place)))
-        }
-        Err(Stop::Refused(TreeError::NoMemory)) => Err(NoMemory),
-        Err(Stop::GivenUp) => Ok(None),
-    }
+    grown(alloc, kept, qp, laws, borders, own, Some(watch))
 }
 
 /// What becomes of the open cells that one thread draws, one after another by a number that all threads
-/// share, until none is left or one is called off: all that come later are, too.
+/// share, until none is left, or one is refused, which calls off what comes behind it, or called off: all that
+/// come later are, too.
 fn draw(
     alloc: Global,
     qp: &Qp,
@@ -87,22 +85,32 @@ fn draw(
     requires few { length laws.now < 2 ^ 32 }
     requires borders { AreBorders qp.now laws.now borders.now }
     requires cover { RegionsCover qp.now laws.now }
-    requires open { All (IsOpen qp.now laws.now borders.now) pieces.now }
+    requires open { All (IsOpen qp.now laws.now) pieces.now }
     ensures { IfOk result (λ drawn. All (IsDrawn qp.now laws.now pieces.now) drawn.items) }
 {
+    let mut kept = Search::new(alloc, laws.len())?;
     let mut drawn = Vec::new(alloc);
     for _draw in 0..pieces.len() {
         let piece = draws.fetch_add(1, Ordering::SeqCst) as usize;
         if pieces.len() <= piece {
             break;
         }
-        if let Piece::Open(root) = &pieces[piece] {
-            let watch = Watch { piece, refusals };
-            match drawn_cell(alloc, qp, laws, borders, root, watch)? {
-                Some(built) => drawn.push(Drawn { piece, built })?,
-                None => break,
+        let Piece::Open(root) = &pieces[piece] else {
+            continue;
+        };
+        let watch = Watch { piece, refusals };
+        let built = match drawn_cell(alloc, &mut kept, qp, laws, borders, root, watch) {
+            Ok(tree) => Piece::Closed(tree),
+            Err(Stop::Refused(TreeError::Wide(place))) => {
+                refusals.note(piece);
+                let built = Piece::Refused(place);
+                drawn.push(Drawn { piece, built })?;
+                break;
             }
-        }
+            Err(Stop::Refused(TreeError::NoMemory)) => return Err(NoMemory),
+            Err(Stop::GivenUp) => break,
+        };
+        drawn.push(Drawn { piece, built })?;
     }
     Ok(drawn)
 }
@@ -127,8 +135,8 @@ pub trait Grow {
         requires few { length laws.now < 2 ^ 32 }
         requires borders { AreBorders qp.now laws.now borders.now }
         requires cover { RegionsCover qp.now laws.now }
-        requires open { All (IsOpen qp.now laws.now borders.now) pieces.items }
-        ensures open { IfOk result (λ finer. All (IsOpen qp.now laws.now borders.now) finer.items) }
+        requires open { All (IsOpen qp.now laws.now) pieces.items }
+        ensures open { IfOk result (λ finer. All (IsOpen qp.now laws.now) finer.items) }
         ensures finer { IfOk result (λ finer. IsFiner qp.now laws.now pieces.items finer.items) }
     {
         all_divided(alloc, qp, laws, borders, pieces)
@@ -148,7 +156,7 @@ pub trait Grow {
         requires few { length laws.now < 2 ^ 32 }
         requires borders { AreBorders qp.now laws.now borders.now }
         requires cover { RegionsCover qp.now laws.now }
-        requires open { All (IsOpen qp.now laws.now borders.now) pieces.now }
+        requires open { All (IsOpen qp.now laws.now) pieces.now }
         ensures { IfOk result (λ hands. All (λ hand. IfOk hand (λ drawn. All (IsDrawn qp.now laws.now pieces.now) drawn.items)) hands.items) }
     {
         Ok(Vec::new(alloc))
@@ -232,7 +240,7 @@ fn nodes_of(
     requires few { length laws.now < 2 ^ 32 }
     requires borders { AreBorders qp.now laws.now borders.now }
     requires cover { RegionsCover qp.now laws.now }
-    requires open { IsOpen qp.now laws.now borders.now piece }
+    requires open { IsOpen qp.now laws.now piece }
     ensures built { IfOk result (IsOfPiece qp.now laws.now piece) }
     ensures wide { IfErr result (λ e. IfWide e (IsWideIn qp.now laws.now piece 1)) }
 {
@@ -281,7 +289,7 @@ fn joined(
     requires few { length laws.now < 2 ^ 32 }
     requires borders { AreBorders qp.now laws.now borders.now }
     requires cover { RegionsCover qp.now laws.now }
-    requires open { All (IsOpen qp.now laws.now borders.now) pieces.items }
+    requires open { All (IsOpen qp.now laws.now) pieces.items }
     ensures filled { IfOk result (AreFilled qp.now laws.now pieces.items) }
     ensures wide { IfErr result (λ e. IfWide e (IsWideAmong qp.now laws.now pieces.items 1)) }
 {
@@ -310,7 +318,7 @@ pub fn grown_by<G: Grow>(
     requires few { length laws.now < 2 ^ 32 }
     requires borders { AreBorders qp.now laws.now borders.now }
     requires cover { RegionsCover qp.now laws.now }
-    requires root { IsOpenCell qp.now laws.now borders.now root }
+    requires root { IsOpenCell qp.now laws.now root }
     ensures built { IfOk result (IsBuilt qp.now laws.now (cell_of root)) }
     ensures wide { IfErr result (λ e. IfWide e (IsFirstWide qp.now laws.now (cell_of root) 1)) }
 {

@@ -1,6 +1,5 @@
 use Rattle.std.proofs.Common.{◌∙◌}
 use Rattle.mpc_tree.proofs.Built.{laws_of_table, table_covers, built_tree, built_certs, built_certified, built_empty, built_wide, box_ready}
-use Rattle.mpc_tree.proofs.MissedLaws.{missed_none}
 use Rattle.mpc_tree.proofs.TableSizes.{laws_numbered}
 use Rattle.mpc_tree.proofs.build.Goals as goal
 
@@ -17,7 +16,6 @@ pub grown_by-requires-clause-root : goal.grown_by-requires-clause-root
 grown_by-requires-clause-root g c = record {
   ready = box_ready c.args.qp.now c.args.laws.now c.in_ok-cell.cell.rows.items (c.in_ok-cell.ensures.rows ∙ c.new.ensures.items);
   run = c.in_ok-cell.ensures.run;
-  missed = missed_none c.args.qp.now c.deref.result.now c.in_ok-cell.cell.rows.items c.len.result c.in_ok-missed.missed c.in_ok-missed.ensures;
 }
 
 pub returns-clause-tree : goal.returns-clause-tree

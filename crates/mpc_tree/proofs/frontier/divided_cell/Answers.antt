@@ -2,9 +2,7 @@ use Rattle.std.proofs.Common.{◌≡◌, ◌∷◌, [], ◌∙◌, sym, ap, subs
 use Rattle.std.proofs.lemmas.Result.{IfOk-weaker}
 use Rattle.std.specs.Prelude.{All}
 use Rattle.mpc_tree.specs.declared.frontier.Piece.TheVariants.{Closed, Open, Refused}
-use Rattle.mpc_tree.specs.declared.runs.OpenCell.{OpenCell}
-use Rattle.mpc_tree.specs.Growth.{IsOpenCell, IsSplitAt, cell_of}
-use Rattle.mpc_tree.specs.Missed.{AreMissed}
+use Rattle.mpc_tree.specs.Growth.{IsSplitAt, cell_of}
 use Rattle.mpc_tree.specs.Pieces.{AreSides, IsOpen, IsFiner}
 use Rattle.mpc_tree.proofs.CellRuns.{row_fits}
 use Rattle.mpc_tree.proofs.Dividing.{place_within, plain_read}
@@ -27,18 +25,15 @@ pub returns-in-Ok-Split-clause-open : goal.returns-in-Ok-Split-clause-open
 returns-in-Ok-Split-clause-open c =
     let s : IsSplitAt c.args.qp.now c.args.laws.now c.args.borders.now (cell_of c.args.parent) c.in-Ok-Split.place c.in-Ok-Split.row = (rw c.in-Ok-Split.field-0-is at c.in-Ok-Split.ensures.placed).0 in
     let row = same_row c.args.qp.now c.args.laws.now c.args.borders.now c.requires.borders (cell_of c.args.parent) c.in-Ok-Split.place c.in-Ok-Split.row s c.index-borders-place.result c.as_slice.result.now c.index-as_slice-row.result c.index-borders-place.is c.as_slice.ensures c.index-as_slice-row.is in
-    let parent : OpenCell = record { cell = c.args.parent.cell; next = c.args.parent.next; missed = c.swap-in-Ok-Split.new.y } in
-    let known : IsOpenCell c.args.qp.now c.args.laws.now c.args.borders.now parent = record { ready = c.requires.parent.ready; run = c.requires.parent.run; missed = subst (AreMissed c.args.qp.now c.args.borders.now c.args.parent.cell.rows.items) (sym c.swap-in-Ok-Split.ensures.y_after) c.in-Ok-Split.ensures.missed } in
-    IfOk-weaker c.split.result (λ v. AreSides parent c.index-as_slice-row.result c.in-Ok-Split.run' c.in-Ok-Split.place v.items) (λ v. All (IsOpen c.args.qp.now c.args.laws.now c.args.borders.now) v.items)
-    (λ v p. split_open c.args.qp.now c.args.laws.now c.args.borders.now c.requires.borders parent c.in-Ok-Split.place c.in-Ok-Split.row s c.index-as_slice-row.result row c.in-Ok-Split.run' v.items p known c.cell_theorems.ensures (rw c.in-Ok-Split.field-0-is at c.in-Ok-Split.ensures.placed).1) c.split.ensures
+    IfOk-weaker c.split.result (λ v. AreSides c.args.parent c.index-as_slice-row.result c.in-Ok-Split.run' c.in-Ok-Split.place v.items) (λ v. All (IsOpen c.args.qp.now c.args.laws.now) v.items)
+    (λ v p. split_open c.args.qp.now c.args.laws.now c.args.borders.now c.requires.borders c.args.parent c.in-Ok-Split.place c.in-Ok-Split.row s c.index-as_slice-row.result row c.in-Ok-Split.run' v.items p c.requires.parent c.cell_theorems.ensures (rw c.in-Ok-Split.field-0-is at c.in-Ok-Split.ensures.placed).1) c.split.ensures
 
 pub returns-in-Ok-Split-clause-finer : goal.returns-in-Ok-Split-clause-finer
 returns-in-Ok-Split-clause-finer c =
     let s : IsSplitAt c.args.qp.now c.args.laws.now c.args.borders.now (cell_of c.args.parent) c.in-Ok-Split.place c.in-Ok-Split.row = (rw c.in-Ok-Split.field-0-is at c.in-Ok-Split.ensures.placed).0 in
     let row = same_row c.args.qp.now c.args.laws.now c.args.borders.now c.requires.borders (cell_of c.args.parent) c.in-Ok-Split.place c.in-Ok-Split.row s c.index-borders-place.result c.as_slice.result.now c.index-as_slice-row.result c.index-borders-place.is c.as_slice.ensures c.index-as_slice-row.is in
-    let parent : OpenCell = record { cell = c.args.parent.cell; next = c.args.parent.next; missed = c.swap-in-Ok-Split.new.y } in
-    IfOk-weaker c.split.result (λ v. AreSides parent c.index-as_slice-row.result c.in-Ok-Split.run' c.in-Ok-Split.place v.items) (λ v. IsFiner c.args.qp.now c.args.laws.now (Open c.args.parent ∷ []) v.items)
-    (λ v p. let finer = split_finer c.args.qp.now c.args.laws.now c.args.borders.now c.requires.borders parent c.in-Ok-Split.place c.in-Ok-Split.row s c.index-as_slice-row.result row c.in-Ok-Split.run' v.items p in record { filled = finer.filled; wide = finer.wide }) c.split.ensures
+    IfOk-weaker c.split.result (λ v. AreSides c.args.parent c.index-as_slice-row.result c.in-Ok-Split.run' c.in-Ok-Split.place v.items) (λ v. IsFiner c.args.qp.now c.args.laws.now (Open c.args.parent ∷ []) v.items)
+    (λ v p. split_finer c.args.qp.now c.args.laws.now c.args.borders.now c.requires.borders c.args.parent c.in-Ok-Split.place c.in-Ok-Split.row s c.index-as_slice-row.result row c.in-Ok-Split.run' v.items p) c.split.ensures
 
 pub returns-in-Ok-Leaf-clause-finer : goal.returns-in-Ok-Leaf-clause-finer
 returns-in-Ok-Leaf-clause-finer c =
@@ -47,8 +42,8 @@ returns-in-Ok-Leaf-clause-finer c =
 
 pub returns-in-Err-Wide-clause-open : goal.returns-in-Err-Wide-clause-open
 returns-in-Err-Wide-clause-open c =
-    IfOk-weaker c.one-in-Err-Wide.result (λ v. v.items ≡ Refused c.in-Err-Wide.place ∷ []) (λ v. All (IsOpen c.args.qp.now c.args.laws.now c.args.borders.now) v.items)
-    (λ v e. one_open c.args.qp.now c.args.laws.now c.args.borders.now v.items (Refused c.in-Err-Wide.place) e tt) c.one-in-Err-Wide.ensures
+    IfOk-weaker c.one-in-Err-Wide.result (λ v. v.items ≡ Refused c.in-Err-Wide.place ∷ []) (λ v. All (IsOpen c.args.qp.now c.args.laws.now) v.items)
+    (λ v e. one_open c.args.qp.now c.args.laws.now v.items (Refused c.in-Err-Wide.place) e tt) c.one-in-Err-Wide.ensures
 
 pub returns-in-Err-Wide-clause-finer : goal.returns-in-Err-Wide-clause-finer
 returns-in-Err-Wide-clause-finer c =

@@ -45,7 +45,7 @@ loop-hand-preserved g c =
     }
 
 pub joined-requires-clause-open : goal.joined-requires-clause-open
-joined-requires-clause-open g c = become_open c.args.qp.now c.args.laws.now c.args.borders.now c.in_ok-pieces.pieces.items c.loop-hand.pieces.items c.loop-hand.invariant.become c.in_ok-pieces.ensures.open
+joined-requires-clause-open g c = become_open c.args.qp.now c.args.laws.now c.in_ok-pieces.pieces.items c.loop-hand.pieces.items c.loop-hand.invariant.become c.in_ok-pieces.ensures.open
 
 pub returns-clause-built : goal.returns-clause-built
 returns-clause-built g c =

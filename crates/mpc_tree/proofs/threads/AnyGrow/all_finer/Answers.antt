@@ -11,8 +11,8 @@ map_vec-requires-after_bounds g c κs within = λ i x inside is.
     let qp = c.args.qp.now in
     let laws = c.args.laws.now in
     let groups = c.in_ok-groups.groups.items in
-    let whole : All (IsOpen qp laws c.args.borders.now) (all_of groups) = subst (All (IsOpen qp laws c.args.borders.now)) (sym c.in_ok-groups.ensures) c.requires.open in
-    let ready : All (IsOpen qp laws c.args.borders.now) x.items = subst (λ (v : Vec Piece Global). All (IsOpen qp laws c.args.borders.now) v.items) (sym is) (group_open qp laws c.args.borders.now groups whole i x inside) in
+    let whole : All (IsOpen qp laws) (all_of groups) = subst (All (IsOpen qp laws)) (sym c.in_ok-groups.ensures) c.requires.open in
+    let ready : All (IsOpen qp laws) x.items = subst (λ (v : Vec Piece Global). All (IsOpen qp laws) v.items) (sym is) (group_open qp laws groups whole i x inside) in
     search rules
 
 pub returns-in-Ok-clause-open : goal.returns-in-Ok-clause-open
@@ -22,7 +22,7 @@ returns-in-Ok-clause-open g c =
     let groups = c.in_ok-groups.groups.items in
     let parts = c.in-Ok.groups.items in
     let as_many : length parts ≡ length groups = (let p = c.in-Ok.groups.ok in let s = c.in_ok-groups.groups.ok in omega (arith, p, s, c.in-Ok.ensures.len)) in
-    IfOk-weaker c.joined_groups.result (λ v. AreJoined parts v.items) (λ v. All (IsOpen qp laws c.args.borders.now) v.items) (λ v j. groups_open qp laws c.args.borders.now parts v.items (λ i part inside.
+    IfOk-weaker c.joined_groups.result (λ v. AreJoined parts v.items) (λ v. All (IsOpen qp laws) v.items) (λ v j. groups_open qp laws parts v.items (λ i part inside.
     let job = (c.in-Ok.ensures.each i part (omega (arith, as_many, inside))).1 in
     let met = job.call.met in
     search rules) j) c.joined_groups.ensures
