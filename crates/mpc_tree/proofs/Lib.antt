@@ -21,3 +21,4 @@ pub mod WideCells
 pub mod OneLeaf
 pub mod OneTree
 pub mod TableSizes
+pub mod JointRuns

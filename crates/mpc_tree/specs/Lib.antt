@@ -13,3 +13,4 @@ pub mod Pieces
 pub mod Causes
 pub mod Certified
 pub mod WholeRows
+pub mod Joints

@@ -5,6 +5,7 @@ use Rattle.mpc_rows.specs.declared.programs.Qp.{Qp}
 use Rattle.mpc_rows.specs.declared.systems.Row.{Row}
 use Rattle.mpc_simplex.specs.Answer.{HasPoint}
 use Rattle.mpc_systems.specs.Systems.{meet_system}
+use Rattle.mpc_tree.specs.Joints.{AreJoints}
 use Rattle.mpc_tree.specs.declared.missed.TheConstants.{UNKNOWN}
 use Rattle.mpc_tree.specs.declared.missed.Search.{Search}
 use Rattle.mpc_tree.specs.declared.nodes.Region.{Region}
@@ -31,6 +32,7 @@ entry_within shared k = cond (nat_lt shared k) UNKNOWN k
 -- what is kept of a search holds for the cell with these rows
 pub record IsSearchOf (qp : Qp) (borders : List (List RowInt)) (cell : List Row) (s : Search) : Type 0 where
   pub missed : AreMissed qp borders cell s.missed
+  pub joints : AreJoints qp s.joints
 
 -- it holds for the cell of the search
 abbrev pub IsSearch : Qp → List (List RowInt) → Search → Type 0

@@ -7,11 +7,12 @@ ghost use Rattle.mpc_simplex.specs.Answer.{IfWide};
 ghost use Rattle.mpc_beginnings.specs.Beginnings.{lengthened};
 ghost use Rattle.mpc_beginnings.specs.Open.{IsOpenFor};
 ghost use Rattle.mpc_tree.specs.Ends.{IsEndOf};
-ghost use Rattle.mpc_tree.specs.LeafCerts.{nonzero_from};
+ghost use Rattle.mpc_tree.specs.LeafCerts.{nonzero_from, IsCertOf};
 
 use mpc_frac::NoMemory;
 use mpc_linear::RowInt;
 use mpc_rows::{Cert, Multipliers, System};
+use mpc_scaled::WholeSystem;
 use mpc_simplex::{Beginning, Broken, Decision, SimplexError, Workspace, decide};
 use std::alloc::Global;
 
@@ -86,6 +87,25 @@ pub fn broken_end(
         Some(Broken::Refuted(multipliers)) => {
             Ok(Some(End::Refuted(cert_of(alloc, &multipliers)?)))
         }
+        None => Ok(None),
+    }
+}
+
+/// The certificate that the system of the kept run has no point with these rows behind its own. Nothing
+/// where it has one, or whole numbers don't serve for it.
+pub fn refuted_cert(
+    alloc: Global,
+    work: &mut Workspace,
+    run: &Beginning,
+    rows: &WholeSystem,
+) -> Result<Option<Cert>, NoMemory>
+    requires width { rows.now.width ≡ run.now.width }
+    requires open { IsOpenFor run.now work.old }
+    ensures cert { IfOk result (λ o. IfSome o (IsCertOf (lengthened run.now rows.now.rows))) }
+    ensures fits { IfOk result (λ o. IfSome o (λ _. RunFits (lengthened run.now rows.now.rows))) }
+{
+    match run.refute(alloc, work, rows)? {
+        Some(multipliers) => Ok(Some(cert_of(alloc, &multipliers)?)),
         None => Ok(None),
     }
 }

@@ -18,6 +18,7 @@ mod certs;
 mod errors;
 mod frontier;
 mod growth;
+mod joints;
 mod missed;
 mod nodes;
 mod refusals;

@@ -3,6 +3,7 @@
 ghost use Rattle.std.specs.Prelude.{◌≡◌, ◌<◌, ◌↔◌, IfOk, IsTrue, get_or, map, replicate, slice_set};
 ghost use Rattle.mpc_tree.specs.Missed.{IsAnySearch, IsTurned, entry_within};
 
+use crate::joints::Joints;
 use crate::runs::shared_rows;
 use mpc_frac::NoMemory;
 use mpc_rows::Row;
@@ -70,13 +71,14 @@ impl Missed {
     }
 }
 
-/// What is kept while cells are searched one after another: a workspace, and what is known of the laws that the
-/// cell with these rows misses.
+/// What is kept while cells are searched one after another: a workspace, what is known of the laws that the
+/// cell with these rows misses, and the runs of the last leaf without a law.
 #[derive(Drop)]
 pub struct Search {
     pub work: Workspace,
     pub rows: Vec<Row>,
     pub missed: Missed,
+    pub joints: Joints,
 }
 
 impl Search {
@@ -89,6 +91,7 @@ impl Search {
             work: Workspace::new(alloc),
             rows: Vec::new(alloc),
             missed,
+            joints: Joints::new(alloc),
         })
     }
 

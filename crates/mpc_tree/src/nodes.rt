@@ -10,6 +10,7 @@ ghost use Rattle.mpc_tree.specs.CellRuns.{IsOpenAt, IsRunOf};
 ghost use Rattle.mpc_tree.specs.Cells.{NoneMeetsBefore};
 ghost use Rattle.mpc_tree.specs.Ends.{IsEndOf};
 ghost use Rattle.mpc_tree.specs.Growth.{RegionsCover, NextFits, MeetsNext, HoldFirst, AreLeftOut, IsLeftOutOf, IsFirstMeeting, IsHeldBehind, IsHeld, NamesWideRow, IsPlaced};
+ghost use Rattle.mpc_tree.specs.Joints.{AreJoints};
 ghost use Rattle.mpc_tree.specs.LeafCerts.{IsCertOf, AreCertsOf};
 ghost use Rattle.mpc_tree.specs.Missed.{IsRegion, IsSearchOf};
 ghost use Rattle.mpc_tree.specs.NodeRuns.{HoldsFit};
@@ -19,6 +20,7 @@ ghost use Rattle.mpc_tree.specs.WideRuns.{IsWideAt};
 use crate::borders::Border;
 use crate::certs::{End, broken_end, plain_end};
 use crate::errors::TreeError;
+use crate::joints::Joints;
 use crate::missed::Search;
 use crate::runs::KeptCell;
 use mpc_frac::NoMemory;
@@ -355,13 +357,24 @@ fn first_failing(
 }
 
 /// The certificate that no state of the cell has admissible unknowns.
-fn joint_cert(alloc: Global, qp: &Qp, cell: &[Row], node: u64) -> Result<Cert, TreeError>
+fn joint_cert(
+    alloc: Global,
+    joints: &mut Joints,
+    qp: &Qp,
+    cell: &[Row],
+    node: u64,
+) -> Result<Cert, TreeError>
+    requires joints { AreJoints qp.now joints.old }
     requires cell { HasBoxWidth qp.now cell.now }
     requires no_point { ¬ HasPoint (joint_system qp.now cell.now) }
+    ensures joints { AreJoints qp.now joints.new }
     ensures cert { IfOk result (λ cert. IsCertOf (joint_system qp.now cell.now) cert) }
     ensures fits { IfOk result (λ _. RunFits (joint_system qp.now cell.now)) }
     ensures wide { IfErr result (λ e. IfWide e (λ place. (place ≡ Place.Joint node) × (¬ RunFits (joint_system qp.now cell.now)))) }
 {
+    if let Some(cert) = joints.cert(alloc, qp, cell)? {
+        return Ok(cert);
+    }
     let system = joint_system(alloc, qp, cell)?;
     match plain_end(alloc, &system) {
         Ok(End::Refuted(cert)) => Ok(cert),
@@ -399,7 +412,7 @@ pub fn place_node(
     cell.open(alloc, &mut kept.work)?;
     match first_meeting(alloc, kept, qp, laws, borders, cell, at)? {
         None => {
-            let cert = joint_cert(alloc, qp, &cell.rows, at.node)?;
+            let cert = joint_cert(alloc, &mut kept.joints, qp, &cell.rows, at.node)?;
             Ok(Placed::Leaf(Node::NoMove { cert }))
         }
         Some(met) => {

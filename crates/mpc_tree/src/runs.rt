@@ -60,7 +60,11 @@ pub fn shared_rows(one: &[Row], other: &[Row]) -> usize
 }
 
 /// The run with one more row. Nothing where there is none, or where whole numbers don't serve.
-fn longer(alloc: Global, run: &Option<Beginning>, row: &Row) -> Result<Option<Beginning>, NoMemory>
+pub fn longer(
+    alloc: Global,
+    run: &Option<Beginning>,
+    row: &Row,
+) -> Result<Option<Beginning>, NoMemory>
     requires { IfSome run.now (λ run. length row.now.a ≡ run.width) }
     ensures { IfOk result (IsRunWith run.now row.now) }
 {

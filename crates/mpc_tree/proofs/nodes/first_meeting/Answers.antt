@@ -55,7 +55,7 @@ loop-place-preserved-then-fits_behind c =
       none = meets_none c.args.qp.now c.args.laws.now c.args.borders.now c.requires.borders c.args.cell.now.rows.items c.loop-place.place c.index-borders-place.result is c.cell_theorems.ensures c.loop-place.invariant.none (missed_now c.args.qp.now c.index-borders-place.result c.args.cell.now.rows.items _ missed);
       fits = meets_fit c.args.qp.now c.args.laws.now c.args.borders.now c.requires.borders c.args.cell.now.rows.items c.loop-place.place c.index-borders-place.result is c.args.at.next c.loop-place.invariant.fits (c.fits_behind.ensures.meets c.if-fits_behind.true);
       opened = c.loop-place.invariant.opened;
-      kept = record { missed = c.loop-place.invariant.kept.missed };
+      kept = record { missed = c.loop-place.invariant.kept.missed; joints = c.loop-place.invariant.kept.joints };
     }
 
 pub loop-place-preserved : goal.loop-place-preserved
@@ -66,5 +66,5 @@ loop-place-preserved c =
       none = meets_none c.args.qp.now c.args.laws.now c.args.borders.now c.requires.borders c.args.cell.now.rows.items c.loop-place.place c.index-borders-place.result is c.cell_theorems.ensures c.loop-place.invariant.none (missed_now c.args.qp.now c.index-borders-place.result c.args.cell.now.rows.items c.in-Ok-Missed.rows missed);
       fits = meets_fit c.args.qp.now c.args.laws.now c.args.borders.now c.requires.borders c.args.cell.now.rows.items c.loop-place.place c.index-borders-place.result is c.args.at.next c.loop-place.invariant.fits c.in-Ok-Missed.ensures.wide;
       opened = c.in-Ok-Missed.ensures.open;
-      kept = record { missed = missed_noted c.args.qp.now c.args.borders.now c.args.cell.now.rows.items c.loop-place.kept.missed c.loop-place.invariant.kept.missed c.loop-place.place c.in-Ok-Missed.rows c.index-borders-place.result is missed c.note.new.self c.note.ensures };
+      kept = record { missed = missed_noted c.args.qp.now c.args.borders.now c.args.cell.now.rows.items c.loop-place.kept.missed c.loop-place.invariant.kept.missed c.loop-place.place c.in-Ok-Missed.rows c.index-borders-place.result is missed c.note.new.self c.note.ensures; joints = c.loop-place.invariant.kept.joints };
     }

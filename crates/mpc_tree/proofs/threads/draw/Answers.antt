@@ -32,6 +32,11 @@ drawn_more qp laws pieces drawn more d root piece within read opened becomes all
 named : (P : Place → Type 0) (stop : Stop) (e : TreeError) (place : Place) → stop ≡ Refuse e → e ≡ Wide place → IfRefused stop P → P place
 named P stop e place s w h = subst (λ x. IfWide x P) w (subst (λ x. IfRefused x P) s h)
 
+pub loop-draw-init : goal.loop-draw-init
+loop-draw-init c =
+    let none : All (IsDrawn c.args.qp.now c.args.laws.now c.args.pieces.now) c.new-drawn.result.items = search rules in
+    record { drawn = none; kept = c.in_ok-kept.ensures c.args.qp.now c.args.borders.now }
+
 pub loop-draw-preserved : goal.loop-draw-preserved
 loop-draw-preserved c =
     let d : Drawn = record { piece = c.fetch_add-piece.result; built = Closed c.in-Ok.tree } in

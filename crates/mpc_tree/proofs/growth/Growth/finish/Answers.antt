@@ -80,7 +80,7 @@ nodes-preserved-in-Ok-Split c =
     record {
       grown = grown_at c.args.qp.now c.args.laws.now c.args.borders.now c.requires.borders (record { rows = c.nodes.self.cell.rows.items; next = c.nodes.self.next }) c.in-Ok-Split.place c.in-Ok-Split.row s c.cell_theorems.ensures (record { rows = c.args.self.now.cell.rows.items; next = c.args.self.now.next }) c.nodes.self.tree c.nodes.self.sides.items c.nodes.self.held c.nodes.invariant.grown c.in-Ok-Split.run' (rw c.in-Ok-Split.field-0-is at c.in-Ok-Split.ensures.placed).1 c.index-rows-row.result row c.open_split.new.tree c.open_split.new.cell.rows.items c.open_split.new.sides.items c.in_ok-open_split-in-Ok-Split.ensures.tree c.in_ok-open_split-in-Ok-Split.ensures.cell c.in_ok-open_split-in-Ok-Split.ensures.sides;
       known = λ h. known_at c.args.qp.now c.args.laws.now c.args.borders.now c.requires.borders (record { rows = c.nodes.self.cell.rows.items; next = c.nodes.self.next }) c.in-Ok-Split.place c.in-Ok-Split.row s c.cell_theorems.ensures c.index-rows-row.result row c.open_split.new.cell.rows.items c.in_ok-open_split-in-Ok-Split.ensures.cell;
-      kept = record { missed = missed_longer c.args.qp.now c.args.borders.now c.nodes.self.cell.rows.items c.place_node.new.kept.missed c.place_node.ensures.kept.missed (whole_row c.index-rows-row.result) c.open_split.new.cell.rows.items c.in_ok-open_split-in-Ok-Split.ensures.cell };
+      kept = record { missed = missed_longer c.args.qp.now c.args.borders.now c.nodes.self.cell.rows.items c.place_node.new.kept.missed c.place_node.ensures.kept.missed (whole_row c.index-rows-row.result) c.open_split.new.cell.rows.items c.in_ok-open_split-in-Ok-Split.ensures.cell; joints = c.place_node.ensures.kept.joints };
       run = subst (λ rows. IsRunOf c.args.qp.now rows c.open_split.new.cell.run) (sym c.in_ok-open_split-in-Ok-Split.ensures.cell) (narrowed c.args.qp.now c.nodes.self.cell.rows.items c.nodes.self.cell.run c.nodes.invariant.run (whole_row c.index-rows-row.result) c.open_split.new.cell.run c.in_ok-open_split-in-Ok-Split.ensures.run);
     }
 
@@ -101,7 +101,7 @@ nodes-preserved c =
     record {
       grown = next_at c.args.qp.now c.args.laws.now (record { rows = c.args.self.now.cell.rows.items; next = c.args.self.now.next }) c.args.borders.now c.nodes.self.tree c.push.new.self (record { rows = c.nodes.self.cell.rows.items; next = c.nodes.self.next }) c.nodes.self.sides.items c.pop.new.self.items c.in-Some.side c.nodes.self.held c.in-Ok-Leaf.leaf c.enter.new.cell.rows.items c.in_ok-self-in-Some.field-0 c.nodes.invariant.grown l c.in-Some.ensures.items c.in_ok-push-in-Ok-Leaf.ensures.ok c.in_ok-self-in-Some.ensures.cell c.in_ok-self-in-Some.ensures.next;
       known = λ h. absurd (omega arith);
-      kept = record { missed = missed_side c.args.qp.now c.args.borders.now c.nodes.self.cell.rows.items c.place_node.new.kept.missed c.place_node.ensures.kept.missed c.in-Some.side.shared (shared_within c.args.qp.now c.args.laws.now (record { rows = c.args.self.now.cell.rows.items; next = c.args.self.now.next }) c.args.borders.now c.nodes.self.tree (record { rows = c.nodes.self.cell.rows.items; next = c.nodes.self.next }) c.nodes.self.sides.items c.pop.new.self.items c.in-Some.side c.nodes.self.held c.nodes.invariant.grown c.in-Some.ensures.items) c.in-Some.side.row c.enter.new.cell.rows.items c.in_ok-self-in-Some.ensures.cell c.forget.new.self c.forget.ensures };
+      kept = record { missed = missed_side c.args.qp.now c.args.borders.now c.nodes.self.cell.rows.items c.place_node.new.kept.missed c.place_node.ensures.kept.missed c.in-Some.side.shared (shared_within c.args.qp.now c.args.laws.now (record { rows = c.args.self.now.cell.rows.items; next = c.args.self.now.next }) c.args.borders.now c.nodes.self.tree (record { rows = c.nodes.self.cell.rows.items; next = c.nodes.self.next }) c.nodes.self.sides.items c.pop.new.self.items c.in-Some.side c.nodes.self.held c.nodes.invariant.grown c.in-Some.ensures.items) c.in-Some.side.row c.enter.new.cell.rows.items c.in_ok-self-in-Some.ensures.cell c.forget.new.self c.forget.ensures; joints = c.place_node.ensures.kept.joints };
       run = top_run c.args.qp.now c.args.laws.now (record { rows = c.args.self.now.cell.rows.items; next = c.args.self.now.next }) c.args.borders.now c.nodes.self.tree (record { rows = c.nodes.self.cell.rows.items; next = c.nodes.self.next }) c.nodes.self.sides.items c.pop.new.self.items c.in-Some.side c.nodes.self.held c.nodes.invariant.grown c.in-Some.ensures.items c.enter.new.cell.rows.items c.enter.new.cell.run c.in_ok-self-in-Some.ensures.cell c.in_ok-self-in-Some.ensures.run;
     }
 
