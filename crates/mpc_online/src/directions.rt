@@ -51,8 +51,6 @@ pub fn prepared_with(alloc: Global, qp: &Qp, kept: Option<Kept>) -> Result<Prepa
     let costs = whole_rows(alloc, &qp.f, 1)?;
     let even = even_rows(alloc, qp);
     let opening = opening_of(alloc, qp, &kept)?;
-    let mut slots = Vec::new(alloc);
-    slots.resize(SLOTS, 0)?;
     Ok(Prepared {
         rows,
         sides,
@@ -62,7 +60,7 @@ pub fn prepared_with(alloc: Global, qp: &Qp, kept: Option<Kept>) -> Result<Prepa
         opening,
         directions: Vec::new(alloc),
         index: Vec::new(alloc),
-        slots,
+        slots: Vec::new(alloc),
     })
 }
 
@@ -337,7 +335,18 @@ fn remember(slots: &mut [u32], slot: usize, place: u32) {
     }
 }
 
-/// The same: where its slot says so, the index isn't searched.
+/// Makes the slots, where there are none yet and a direction is met again.
+fn make_slots(slots: &mut Vec<u32>, again: bool) -> Result<(), Stop>
+    ensures memory { IfErr result (λ e. e ≡ no_memory) }
+{
+    if again && slots.is_empty() {
+        slots.resize(SLOTS, 0)?;
+    }
+    Ok(())
+}
+
+/// The same: where its slot says so, the index isn't searched. The slots are made when a direction is first met again, so that one
+/// state alone needn't clear them.
 pub fn direction_place(
     alloc: Global,
     qp: &Qp,
@@ -359,7 +368,9 @@ pub fn direction_place(
     if let Some(place) = place_in_slot(&prepared.directions, &prepared.slots, slot, set, row) {
         return Ok(place);
     }
+    let known = prepared.directions.len();
     let place = indexed_place(alloc, qp, prepared, set, row)?;
+    make_slots(&mut prepared.slots, place < known)?;
     if let Ok(short) = u32::try_from(place) {
         remember(&mut prepared.slots, slot, short);
     }
