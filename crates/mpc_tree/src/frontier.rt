@@ -291,6 +291,40 @@ pub fn joined_groups(
     Ok(pieces)
 }
 
+/// The tree of an open cell in pieces, by a search before its first cell.
+fn pieces_in<G: Grow>(
+    by: &G,
+    alloc: Global,
+    kept: &mut Search,
+    qp: &Qp,
+    laws: &LawTable,
+    borders: &[Border],
+    root: OpenCell,
+) -> Result<Vec<Piece>, NoMemory>
+    requires few { length laws.now < 2 ^ 32 }
+    requires borders { AreBorders qp.now laws.now borders.now }
+    requires cover { RegionsCover qp.now laws.now }
+    requires kept { IsSearch qp.now borders.now kept.old }
+    requires root { IsOpenCell qp.now laws.now root }
+    ensures open { IfOk result (λ pieces. All (IsOpen qp.now laws.now) pieces.items) }
+    ensures finer { IfOk result (λ pieces. IsFiner qp.now laws.now (Piece.Open root ∷ []) pieces.items) }
+{
+    let mut pieces = Vec::new(alloc);
+    pieces.push(Piece::Open(root))?;
+    for round in 0..MOST_ROUNDS {
+        let open = open_cells(&pieces);
+        if open == 0 || ENOUGH <= open {
+            break;
+        }
+        pieces = if round < FIRST_NODES {
+            finer(alloc, kept, qp, laws, borders, pieces, 1)?
+        } else {
+            by.all_finer(alloc, qp, laws, borders, pieces)?
+        };
+    }
+    Ok(pieces)
+}
+
 /// The tree of an open cell in pieces, as far as the first cell that is refused: divided in preorder by
 /// the caller at first, and then breadth-first, until enough cells are open, or none.
 pub fn pieces_of<G: Grow>(
@@ -309,18 +343,5 @@ pub fn pieces_of<G: Grow>(
     ensures finer { IfOk result (λ pieces. IsFiner qp.now laws.now (Piece.Open root ∷ []) pieces.items) }
 {
     let mut kept = Search::new(alloc, laws.len())?;
-    let mut pieces = Vec::new(alloc);
-    pieces.push(Piece::Open(root))?;
-    for round in 0..MOST_ROUNDS {
-        let open = open_cells(&pieces);
-        if open == 0 || ENOUGH <= open {
-            break;
-        }
-        pieces = if round < FIRST_NODES {
-            finer(alloc, &mut kept, qp, laws, borders, pieces, 1)?
-        } else {
-            by.all_finer(alloc, qp, laws, borders, pieces)?
-        };
-    }
-    Ok(pieces)
+    pieces_in(by, alloc, &mut kept, qp, laws, borders, root)
 }

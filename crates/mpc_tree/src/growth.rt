@@ -225,7 +225,9 @@ pub fn grown_alone(
     ensures wide { IfErr result (λ e. IfWide e (IsFirstWide qp.now laws.now (cell_of root) 1)) }
 {
     let mut kept = Search::new(alloc, laws.len())?;
-    match grown(alloc, &mut kept, qp, laws, borders, root, None) {
+    let end = grown(alloc, &mut kept, qp, laws, borders, root, None);
+    drop(kept);
+    match end {
         Ok(tree) => Ok(tree),
         Err(Stop::Refused(error)) => Err(error),
         Err(Stop::GivenUp) => unreachable!(),

@@ -70,28 +70,35 @@ fn drawn_cell(
     grown(alloc, kept, qp, laws, borders, own, Some(watch))
 }
 
+/// What threads that build open cells share beside the pieces: the place of the next one, and the refusals.
+#[derive(Clone, Copy, Drop)]
+struct Share<'a, 'b> {
+    next: &'a AtomicU64,
+    refusals: &'b Refusals,
+}
+
 /// What becomes of the open cells that one thread draws, one after another by a number that all threads
-/// share, until none is left, or one is refused, which calls off what comes behind it, or called off: all that
-/// come later are, too.
-fn draw(
+/// share, until none is left or one is refused or called off: all that come later are, too.
+fn drawn_cells(
     alloc: Global,
+    kept: &mut Search,
     qp: &Qp,
     laws: &LawTable,
     borders: &[Border],
     pieces: &[Piece],
-    draws: &AtomicU64,
-    refusals: &Refusals,
+    share: Share,
 ) -> Result<Vec<Drawn>, NoMemory>
     requires few { length laws.now < 2 ^ 32 }
     requires borders { AreBorders qp.now laws.now borders.now }
     requires cover { RegionsCover qp.now laws.now }
+    requires kept { IsSearch qp.now borders.now kept.old }
     requires open { All (IsOpen qp.now laws.now) pieces.now }
     ensures { IfOk result (λ drawn. All (IsDrawn qp.now laws.now pieces.now) drawn.items) }
 {
-    let mut kept = Search::new(alloc, laws.len())?;
+    let refusals = share.refusals;
     let mut drawn = Vec::new(alloc);
     for _draw in 0..pieces.len() {
-        let piece = draws.fetch_add(1, Ordering::SeqCst) as usize;
+        let piece = share.next.fetch_add(1, Ordering::SeqCst) as usize;
         if pieces.len() <= piece {
             break;
         }
@@ -99,7 +106,7 @@ fn draw(
             continue;
         };
         let watch = Watch { piece, refusals };
-        let built = match drawn_cell(alloc, &mut kept, qp, laws, borders, root, watch) {
+        let built = match drawn_cell(alloc, kept, qp, laws, borders, root, watch) {
             Ok(tree) => Piece::Closed(tree),
             Err(Stop::Refused(TreeError::Wide(place))) => {
                 refusals.note(piece);
@@ -113,6 +120,25 @@ fn draw(
         drawn.push(Drawn { piece, built })?;
     }
     Ok(drawn)
+}
+
+/// The same by a search of its own.
+fn draw(
+    alloc: Global,
+    qp: &Qp,
+    laws: &LawTable,
+    borders: &[Border],
+    pieces: &[Piece],
+    share: Share,
+) -> Result<Vec<Drawn>, NoMemory>
+    requires few { length laws.now < 2 ^ 32 }
+    requires borders { AreBorders qp.now laws.now borders.now }
+    requires cover { RegionsCover qp.now laws.now }
+    requires open { All (IsOpen qp.now laws.now) pieces.now }
+    ensures { IfOk result (λ drawn. All (IsDrawn qp.now laws.now pieces.now) drawn.items) }
+{
+    let mut kept = Search::new(alloc, laws.len())?;
+    drawn_cells(alloc, &mut kept, qp, laws, borders, pieces, share)
 }
 
 /// How the upper part of a tree is divided and the cells that are open below it are built. The bodies that stand here leave them to the
@@ -203,7 +229,11 @@ impl<T: Threads> Grow for T {
         let draws = AtomicU64::new(0);
         let refusals = Refusals::none();
         let threads = most.min(open_cells(pieces) / CELLS_A_THREAD);
-        let hand = |_| draw(alloc, qp, laws, borders, pieces, &draws, &refusals);
+        let share = Share {
+            next: &draws,
+            refusals: &refusals,
+        };
+        let hand = |_| draw(alloc, qp, laws, borders, pieces, share);
         match map_indices(self, alloc, threads, &hand) {
             Ok(hands) => Ok(hands),
             Err(_) => Err(NoMemory),

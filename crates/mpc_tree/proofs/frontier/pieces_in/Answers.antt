@@ -5,14 +5,14 @@ use Rattle.mpc_tree.specs.declared.frontier.Piece.TheVariants.{Open}
 use Rattle.mpc_tree.specs.Missed.{IsSearch}
 use Rattle.mpc_tree.specs.Pieces.{IsFiner, IsOpen}
 use Rattle.mpc_tree.proofs.PieceLemmas.{finer_then}
-use Rattle.mpc_tree.proofs.frontier.pieces_of.Goals as goal
-use Rattle.mpc_tree.proofs.frontier.pieces_of.Goals.{then-round-lt-FIRST_NODES+in_ok-pieces, else-round-lt-FIRST_NODES+in_ok-pieces-2}
+use Rattle.mpc_tree.proofs.frontier.pieces_in.Goals as goal
+use Rattle.mpc_tree.proofs.frontier.pieces_in.Goals.{then-round-lt-FIRST_NODES+in_ok-pieces, else-round-lt-FIRST_NODES+in_ok-pieces-2}
 
 pub loop-round-init : goal.loop-round-init
 loop-round-init g c =
     let finer : IsFiner c.args.qp.now c.args.laws.now (Open c.args.root ∷ []) c.push.new.self.items = search rules in
     let ready : All (IsOpen c.args.qp.now c.args.laws.now) c.push.new.self.items = search rules in
-    record { finer = finer; ready = ready; kept = c.in_ok-kept.ensures c.args.qp.now c.args.borders.now }
+    record { finer = finer; ready = ready; kept = c.requires.kept }
 
 pub loop-round-preserved : goal.loop-round-preserved
 loop-round-preserved g c =

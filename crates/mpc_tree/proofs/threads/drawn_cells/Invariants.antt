@@ -1,7 +1,7 @@
 use Rattle.std.specs.Prelude.{All}
 use Rattle.mpc_tree.specs.Missed.{IsSearch}
 use Rattle.mpc_tree.specs.Pieces.{IsDrawn}
-use Rattle.mpc_tree.proofs.threads.draw.Given as goal
+use Rattle.mpc_tree.proofs.threads.drawn_cells.Given as goal
 
 abbrev pub invariant-loop-draw : goal.invariant-loop-draw
 invariant-loop-draw l = record {

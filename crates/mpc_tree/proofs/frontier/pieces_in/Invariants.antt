@@ -3,7 +3,7 @@ use Rattle.std.specs.Prelude.{All}
 use Rattle.mpc_tree.specs.declared.frontier.Piece.TheVariants.{Open}
 use Rattle.mpc_tree.specs.Missed.{IsSearch}
 use Rattle.mpc_tree.specs.Pieces.{IsOpen, IsFiner}
-use Rattle.mpc_tree.proofs.frontier.pieces_of.Given as goal
+use Rattle.mpc_tree.proofs.frontier.pieces_in.Given as goal
 
 abbrev pub invariant-loop-round : goal.invariant-loop-round
 invariant-loop-round g l = record {

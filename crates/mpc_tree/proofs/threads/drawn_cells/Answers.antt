@@ -18,8 +18,8 @@ use Rattle.mpc_tree.specs.Growth.{cell_of}
 use Rattle.mpc_tree.specs.Pieces.{Becomes, IsDrawn}
 use Rattle.mpc_tree.specs.WideRuns.{IsFirstWide}
 use Rattle.mpc_tree.proofs.PieceLemmas.{refusal_becomes, tree_becomes}
-use Rattle.mpc_tree.proofs.threads.draw.Goals as goal
-use Rattle.mpc_tree.proofs.threads.draw.Goals.{else-loop-draw-test, then-loop-draw-test+then-pieces-piece, then-loop-draw-test+else-pieces-piece+in-Open+in-Err-Refused-Wide+in_ok-push-in-Err-Refused-Wide, then-loop-draw-test+else-pieces-piece+in-Open+in-Err-GivenUp}
+use Rattle.mpc_tree.proofs.threads.drawn_cells.Goals as goal
+use Rattle.mpc_tree.proofs.threads.drawn_cells.Goals.{else-loop-draw-test, then-loop-draw-test+then-pieces-piece, then-loop-draw-test+else-pieces-piece+in-Open+in-Err-Refused-Wide+in_ok-push-in-Err-Refused-Wide, then-loop-draw-test+else-pieces-piece+in-Open+in-Err-GivenUp}
 
 -- one more that was drawn
 drawn_more : (qp : Qp) (laws : List Law) (pieces : List Piece) (drawn more : List Drawn) (d : Drawn) (root : OpenCell) (piece : Piece) → d.piece < length pieces → piece ≡ get_or pieces d.piece piece → piece ≡ Open root → Becomes qp laws (Open root) d.built → All (IsDrawn qp laws pieces) drawn → more ≡ drawn ++ d ∷ [] → All (IsDrawn qp laws pieces) more
@@ -35,7 +35,7 @@ named P stop e place s w h = subst (λ x. IfWide x P) w (subst (λ x. IfRefused 
 pub loop-draw-init : goal.loop-draw-init
 loop-draw-init c =
     let none : All (IsDrawn c.args.qp.now c.args.laws.now c.args.pieces.now) c.new-drawn.result.items = search rules in
-    record { drawn = none; kept = c.in_ok-kept.ensures c.args.qp.now c.args.borders.now }
+    record { drawn = none; kept = c.requires.kept }
 
 pub loop-draw-preserved : goal.loop-draw-preserved
 loop-draw-preserved c =
