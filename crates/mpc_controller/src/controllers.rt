@@ -16,11 +16,22 @@ use std::marker::Model;
 ///
 /// The laws and the tree have the plant's shapes, each leaf has its certificates, over the rows of its
 /// system, and no number on the way to a reply needs more than 128 bits.
-#[derive(Drop)]
 pub struct Controller {
     plant: Plant,
     laws: LawTable,
     tree: Tree,
+}
+
+/// It is dropped in many places, so the program has this once.
+impl Drop for Controller {
+    #[inline(never)]
+    fn drop(self) {
+        let Controller {
+            plant: _,
+            laws: _,
+            tree: _,
+        } = self;
+    }
 }
 
 impl Model for Controller {

@@ -11,7 +11,6 @@ use mpc_linear::{Matrix, Vector};
 /// `(x - xgoal)'q (x - xgoal) + (u - ugoal)'r (u - ugoal)`, plus `(x - xgoal)'last (x - xgoal)` at the end: `drift` and `xgoal` have n
 /// entries, `ugoal` has p. The `rows` hold at each step before the end, the `terminal` rows at the end. The `grid` has one coordinate a
 /// state.
-#[derive(Drop)]
 pub struct Plant {
     pub n: u32,
     pub p: u32,
@@ -28,4 +27,27 @@ pub struct Plant {
     pub terminal: PlantRows,
     pub grid: Coordinates,
     pub ghost is_plant: { IsPlant n p horizon a b q r last drift xgoal ugoal rows terminal grid },
+}
+
+/// A plant is dropped in many places, so the program has this once.
+impl Drop for Plant {
+    #[inline(never)]
+    fn drop(self) {
+        let Plant {
+            n: _,
+            p: _,
+            horizon: _,
+            a: _,
+            b: _,
+            q: _,
+            r: _,
+            last: _,
+            drift: _,
+            xgoal: _,
+            ugoal: _,
+            rows: _,
+            terminal: _,
+            grid: _,
+        } = self;
+    }
 }
