@@ -25,6 +25,7 @@ pub fn check_file<T: Threads + Sync>(
     replies_everywhere();
     accepted_replies();
     let controller = read_file(alloc, bytes)?;
+    let _ = controller.plant();
     let answer = check(rt, alloc, &controller)?;
     Ok(answer)
 }

@@ -16,6 +16,7 @@ pub fn reply_to(alloc: Global, head: &[u8], counts: &[u8]) -> Result<Vec<u8>, Fi
     ensures err { IfErr result (ExplainsFileError head.now) }
 {
     let controller = read_file(alloc, head)?;
+    let _ = controller.plant();
     let text = replies(alloc, &controller, counts)?;
     Ok(text)
 }

@@ -1,6 +1,3 @@
-use Rattle.std.proofs.Common.{subst}
-use Rattle.mpc_controller.specs.Parts.{Parts}
-use Rattle.mpc_controller.specs.Bounds.{IsController}
 use Rattle.mpc_files.proofs.CheckLemmas.{file_answer, cause_given}
 use Rattle.mpc_files.proofs.checks.check_file.Goals as goal
 
@@ -10,5 +7,4 @@ returns-in_err-answer-clause-cause g c =
 
 pub returns-clause-answer : goal.returns-clause-answer
 returns-clause-answer g c =
-    let of_shape = subst (λ (p : Parts). IsController p.plant p.laws p.tree) c.controller.view_is c.controller.invariant in
-    file_answer c.args.bytes.now c.in_ok-controller.controller c.in_ok-controller.ensures.ok c.replies_everywhere.ensures c.accepted_replies.ensures of_shape c.in_ok-answer.answer c.in_ok-answer.ensures.answer
+    file_answer c.args.bytes.now c.in_ok-controller.controller c.in_ok-controller.ensures.ok c.replies_everywhere.ensures c.accepted_replies.ensures c.plant.ensures.controller c.in_ok-answer.answer c.in_ok-answer.ensures.answer
