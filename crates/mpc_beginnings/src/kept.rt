@@ -474,7 +474,6 @@ struct Rows {
 }
 
 /// Lists that runs use, one after the other.
-#[derive(Drop)]
 pub struct Workspace {
     rows: Rows,
     /// The system that further rows are put behind, one run after the other.
@@ -483,6 +482,19 @@ pub struct Workspace {
     lists: KeptLists,
     /// The variable whose row showed last that a longer system has no point.
     refuting: Option<usize>,
+}
+
+/// It is dropped in many places, so the program has this once.
+impl Drop for Workspace {
+    #[inline(never)]
+    fn drop(self) {
+        let Workspace {
+            rows: _,
+            system: _,
+            lists: _,
+            refuting: _,
+        } = self;
+    }
 }
 
 impl Workspace {
@@ -570,10 +582,17 @@ fn kept_end(
 
 /// A system whose run in whole numbers is kept where it ends. The end lies in memory of its own, so that what may have
 /// a run is small: mostly there is none.
-#[derive(Drop)]
 pub struct KeptRun {
     system: WholeSystem,
     last: Box<Ended>,
+}
+
+/// It is dropped in many places, so the program has this once.
+impl Drop for KeptRun {
+    #[inline(never)]
+    fn drop(self) {
+        let KeptRun { system: _, last: _ } = self;
+    }
 }
 
 impl Model for KeptRun {
