@@ -16,6 +16,7 @@ use serde_json::Value;
 use std::alloc::Global;
 
 /// The number that a value is.
+#[inline(never)]
 pub(crate) fn number(alloc: Global, value: &Value) -> Result<Frac, PlantError>
     ensures ok { IfOk result (λ x. number_of (view value.now) ≡ Ok x) }
     ensures bad { (kind : Kind) (path : List ℕ) → result ≡ Err (PlantError.Bad kind path)
@@ -115,6 +116,7 @@ fn numbers(alloc: Global, items: &[Value]) -> Result<Vector, PlantError>
 }
 
 /// The vector of so many numbers that a value is.
+#[inline(never)]
 pub(crate) fn vector(alloc: Global, size: usize, value: &Value) -> Result<Vector, PlantError>
     ensures ok { IfOk result (λ entries. vector_of size (view value.now) ≡ Ok entries) }
     ensures len { IfOk result (λ entries. length entries ≡ size) }

@@ -146,7 +146,8 @@ impl PlantError {
         PlantError::Bad(kind, Path::new(alloc))
     }
 
-    /// The fault as it is seen from one level higher.
+    /// The fault as it is seen from one level higher. The program has this once, and not at each place that may fail.
+    #[inline(never)]
     pub(crate) fn under(self, alloc: Global, segment: &[u8]) -> PlantError
         ensures { (kind : Kind) (path : List ℕ) → result ≡ PlantError.Bad kind path
             → (inner : List ℕ) × (self ≡ PlantError.Bad kind inner)

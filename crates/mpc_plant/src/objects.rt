@@ -13,7 +13,8 @@ use std::alloc::{AllocError, Global};
 /// How many characters of an unknown key a path shows.
 const SHOWN: usize = 32;
 
-/// What stands at a key that is needed.
+/// What stands at a key that is needed. The program has this once, and not at each key.
+#[inline(never)]
 pub(crate) fn needed_in<'v>(
     alloc: Global,
     value: &'v Value,

@@ -201,6 +201,7 @@ fn read_dynamics(alloc: Global, steps: u32, value: &Value) -> Result<Dynamics, P
 }
 
 /// The symmetric matrix of this size at a key.
+#[inline(never)]
 fn weight_in(alloc: Global, size: u32, value: &Value, key: &str) -> Result<Matrix, PlantError>
     ensures ok { IfOk result (λ m. at_key key.now (weight_of size) (view value.now) ≡ Ok m.rows) }
     ensures weight { IfOk result (λ m. IsWeight m size) }

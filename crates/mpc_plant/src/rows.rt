@@ -43,6 +43,7 @@ fn zeros(alloc: Global, size: usize) -> Result<Vector, NoMemory>
 }
 
 /// The vector at a key, or zeros where the key is absent.
+#[inline(never)]
 pub(crate) fn vector_in(
     alloc: Global,
     size: usize,
