@@ -73,12 +73,24 @@ impl Missed {
 
 /// What is kept while cells are searched one after another: a workspace, what is known of the laws that the
 /// cell with these rows misses, and the runs of the last leaf without a law.
-#[derive(Drop)]
 pub struct Search {
     pub work: Workspace,
     pub rows: Vec<Row>,
     pub missed: Missed,
     pub joints: Joints,
+}
+
+/// It is dropped in some places, so the program has this once.
+impl Drop for Search {
+    #[inline(never)]
+    fn drop(self) {
+        let Search {
+            work: _,
+            rows: _,
+            missed: _,
+            joints: _,
+        } = self;
+    }
 }
 
 impl Search {

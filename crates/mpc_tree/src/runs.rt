@@ -12,10 +12,17 @@ use std::alloc::Global;
 
 /// A cell of the search by its rows, and the run of the box and these rows, where one is kept: those
 /// of its node and of its sides go on from there.
-#[derive(Drop)]
 pub struct KeptCell {
     pub rows: Vec<Row>,
     pub run: Option<Beginning>,
+}
+
+/// It is dropped in many places, so the program has this once.
+impl Drop for KeptCell {
+    #[inline(never)]
+    fn drop(self) {
+        let KeptCell { rows: _, run: _ } = self;
+    }
 }
 
 /// A cell whose tree isn't built, and the place of the law with which its search goes on.

@@ -30,6 +30,9 @@ const MANY_LAWS: usize = 60;
 /// How many open cells there are for a thread at least: of fewer, one may take most of the time.
 const CELLS_A_THREAD: usize = 4;
 
+/// How many neighbouring pieces, open or not, a thread draws at once: what a search keeps of one cell serves for the next.
+const STRETCH: u64 = 8;
+
 /// How many open cells of the upper part there are for a thread in a round at least: one alone isn't worth its start.
 const DIVIDED_A_THREAD: usize = 2;
 
@@ -70,14 +73,27 @@ fn drawn_cell(
     grown(alloc, kept, qp, laws, borders, own, Some(watch))
 }
 
-/// What threads that build open cells share beside the pieces: the place of the next one, and the refusals.
+/// What threads that build open cells share beside the pieces: the first of those that none has drawn, and the refusals.
 #[derive(Clone, Copy, Drop)]
 struct Share<'a, 'b> {
     next: &'a AtomicU64,
     refusals: &'b Refusals,
 }
 
-/// What becomes of the open cells that one thread draws, one after another by a number that all threads
+/// Draws the next pieces, and answers with the place of their first.
+fn draw_stretch(share: Share) -> u64 {
+    share.next.fetch_add(STRETCH, Ordering::SeqCst)
+}
+
+/// The place behind this one, if it was drawn with it, or else that of a piece that is drawn now.
+fn next_place(share: Share, place: u64) -> u64 {
+    match place.checked_add(1) {
+        Some(next) if next % STRETCH != 0 => next,
+        _ => draw_stretch(share),
+    }
+}
+
+/// What becomes of the open cells that one thread draws, some neighbours after others by a number that all threads
 /// share, until none is left or one is refused or called off: all that come later are, too.
 fn drawn_cells(
     alloc: Global,
@@ -97,11 +113,13 @@ fn drawn_cells(
 {
     let refusals = share.refusals;
     let mut drawn = Vec::new(alloc);
+    let mut place = draw_stretch(share);
     for _draw in 0..pieces.len() {
-        let piece = share.next.fetch_add(1, Ordering::SeqCst) as usize;
+        let piece = place as usize;
         if pieces.len() <= piece {
             break;
         }
+        place = next_place(share, place);
         let Piece::Open(root) = &pieces[piece] else {
             continue;
         };

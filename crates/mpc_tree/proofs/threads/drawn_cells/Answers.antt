@@ -39,7 +39,7 @@ loop-draw-init c =
 
 pub loop-draw-preserved : goal.loop-draw-preserved
 loop-draw-preserved c =
-    let d : Drawn = record { piece = c.fetch_add-piece.result; built = Closed c.in-Ok.tree } in
+    let d : Drawn = record { piece = c.loop-draw.place; built = Closed c.in-Ok.tree } in
     let becomes = tree_becomes c.args.qp.now c.args.laws.now c.in-Open.root c.in-Ok.tree c.in-Ok.ensures.built in
     let pushed : c.push-in-loop-draw.new.self.items ≡ c.loop-draw.drawn.items ++ d ∷ [] = search rules in
     record {
@@ -56,7 +56,7 @@ returns c =
       | else-loop-draw-test w ↦ subst (λ v. All (IsDrawn qp laws pieces) v.items) (sym w.drawn-is) c.loop-draw.invariant.drawn
       | then-loop-draw-test+then-pieces-piece w ↦ subst (λ v. All (IsDrawn qp laws pieces) v.items) (sym w.drawn-is) c.loop-draw.invariant.drawn
       | then-loop-draw-test+else-pieces-piece+in-Open+in-Err-Refused-Wide+in_ok-push-in-Err-Refused-Wide w ↦
-          let d : Drawn = record { piece = w.fetch_add-piece.result; built = Refused w.in-Err-Refused-Wide.place } in
+          let d : Drawn = record { piece = c.loop-draw.place; built = Refused w.in-Err-Refused-Wide.place } in
           let wide : w.in-Err-Refused-Wide.field-0-0 ≡ Wide w.in-Err-Refused-Wide.place = rw w.in-Err-Refused-Wide.field-0-is at w.in-Err-Refused-Wide.field-0-0-is in
           let refused = named (IsFirstWide qp laws (cell_of w.in-Open.root) 1) w.in-Err-Refused-Wide.field-0 _ w.in-Err-Refused-Wide.place w.in-Err-Refused-Wide.field-0-is wide w.in-Err-Refused-Wide.ensures.wide in
           let becomes = refusal_becomes qp laws w.in-Open.root w.in-Err-Refused-Wide.place refused in
