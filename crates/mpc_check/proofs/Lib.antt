@@ -14,6 +14,7 @@ pub mod BorderLemmas
 pub mod WholeSums
 pub mod WholeRows
 pub mod ColumnSums
+pub mod WeightLemmas
 pub mod WholeLaws
 pub mod LeafLemmas
 pub mod CheckLemmas

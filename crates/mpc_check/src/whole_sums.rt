@@ -16,7 +16,7 @@ ghost use Rattle.mpc_systems.specs.Systems.{hold_system};
 ghost use Rattle.mpc_systems.specs.Writing.{IsOfSize};
 ghost use Rattle.mpc_check.specs.Certs.{HasPositionsIn};
 ghost use Rattle.mpc_check.specs.Columns.{number_in, IsColumnOf, picked_column};
-ghost use Rattle.mpc_check.specs.Picks.{picked_rows, picked_system, weights};
+ghost use Rattle.mpc_check.specs.Picks.{picked_rows, picked_system, weights, AreWeightsOver};
 ghost use Rattle.mpc_controller.specs.Ways.{HasSplitRow, IsTurn, side_row, turn_row, way_rows};
 
 use mpc_controller::Turn;
@@ -27,6 +27,9 @@ use mpc_wholes::{common_multiple, denominator, numerator_over, over_theorems};
 
 /// The greatest size of the numbers that are multiplied, 2^62.
 const MOST: u128 = 0x4000_0000_0000_0000;
+
+/// A certificate of more pairs isn't tested here. Those of the tree have at most one more than there are states.
+const MOST_PAIRS: usize = 16;
 
 /// The greatest size of a sum of products, 2^126.
 const MOST_IN_SUM: u128 = 0x4000_0000_0000_0000_0000_0000_0000_0000;
@@ -269,6 +272,27 @@ fn is_below_zero(sum: i128) -> bool
     sum < 0
 }
 
+/// The numerators of a certificate's multipliers over a common denominator.
+#[derive(Clone, Copy, Drop)]
+struct Numerators<'a> {
+    list: &'a [i64],
+    all: u128,
+}
+
+/// Writes the numerators of a certificate's multipliers over a multiple of their denominators, where none is negative and each at most 2^62.
+fn put_weights(list: &mut [i64], cert: &Cert, all: u128) -> Option<()>
+    requires denom { IsDenominator all }
+    requires room { length cert.now ≤ length list.old }
+    ensures { IfSome result (λ _. AreWeightsOver cert.now all list.new) }
+{
+    let entries = cert.as_slice();
+    for at_entry in 0..entries.len() {
+        let weight = weight_over(&entries[at_entry].1, all)?;
+        list[at_entry] = weight;
+    }
+    Some(())
+}
+
 // ---- the sums of columns
 
 /// The sum of a column of the rows that the certificate names, each times its multiplier, over a common denominator.
@@ -278,7 +302,7 @@ fn column_sum(
     way: &[Turn],
     row: &RowInt,
     cert: &Cert,
-    all: u128,
+    numerators: Numerators,
     column: Column,
 ) -> Option<i128>
     requires way { All (IsTurn tree.now) way.now }
@@ -286,9 +310,10 @@ fn column_sum(
     requires size { IsOfSize (length qp.now.counts) row.now }
     requires positions { HasPositionsIn (height (hold_system qp.now (way_rows tree.now way.now) row.now)) cert.now }
     requires column { IsColumnOf (length qp.now.counts) column }
-    requires denom { IsDenominator all }
+    requires denom { IsDenominator numerators.all }
+    requires numerators { AreWeightsOver cert.now numerators.all numerators.list.now }
     ensures value { IfSome result
-        (λ sum. dot (weights cert.now) (picked_column column (hold_system qp.now (way_rows tree.now way.now) row.now) cert.now) ≡ frac sum all) }
+        (λ sum. dot (weights cert.now) (picked_column column (hold_system qp.now (way_rows tree.now way.now) row.now) cert.now) ≡ frac sum numerators.entry.all) }
     ensures fits { IfSome result
         (λ _. DotFits (weights cert.now) (picked_column column (hold_system qp.now (way_rows tree.now way.now) row.now) cert.now)) }
     ensures size { IfSome result (λ sum. unsigned_abs sum ≤ 2 ^ 126) }
@@ -301,7 +326,7 @@ fn column_sum(
     for at_entry in 0..entries.len() {
         let place = entries[at_entry].0 as usize - 1;
         let number = small(number_at(qp, tree, way, row, place, column))?;
-        let weight = weight_over(&entries[at_entry].1, all)?;
+        let weight = numerators.list[at_entry];
         total = add_term(total, weight, number)?;
     }
     Some(total)
@@ -314,13 +339,14 @@ fn combines_to_zero(
     way: &[Turn],
     row: &RowInt,
     cert: &Cert,
-    all: u128,
+    numerators: Numerators,
 ) -> Option<bool>
     requires way { All (IsTurn tree.now) way.now }
     requires splits { All (HasSplitRow (length qp.now.counts)) tree.now }
     requires size { IsOfSize (length qp.now.counts) row.now }
     requires positions { HasPositionsIn (height (hold_system qp.now (way_rows tree.now way.now) row.now)) cert.now }
-    requires denom { IsDenominator all }
+    requires denom { IsDenominator numerators.all }
+    requires numerators { AreWeightsOver cert.now numerators.all numerators.list.now }
     ensures value { IfSome result
         (λ zero. IsTrue zero ↔ CombinesToZero (picked_system (hold_system qp.now (way_rows tree.now way.now) row.now) cert.now) (weights cert.now)) }
     ensures fits { IfSome result
@@ -328,7 +354,15 @@ fn combines_to_zero(
 {
     let mut zero = true;
     for unknown in 0..qp.counts.len() {
-        let sum = column_sum(qp, tree, way, row, cert, all, Column::Unknown(unknown))?;
+        let sum = column_sum(
+            qp,
+            tree,
+            way,
+            row,
+            cert,
+            numerators,
+            Column::Unknown(unknown),
+        )?;
         zero = stays_zero(zero, sum);
     }
     Some(zero)
@@ -378,9 +412,15 @@ pub fn is_refuted_in_wholes(
     ensures fits { IfSome result
         (λ _. SumsFit (picked_system (hold_system qp.now (way_rows tree.now way.now) row.now) cert.now) (weights cert.now)) }
 {
+    if cert.len() > MOST_PAIRS {
+        return None;
+    }
     let all = common_denominator(cert)?;
-    let zero = combines_to_zero(qp, tree, way, row, cert, all)?;
-    let side = column_sum(qp, tree, way, row, cert, all, Column::Sides)?;
+    let mut list = [0; MOST_PAIRS];
+    put_weights(&mut list, cert, all)?;
+    let numerators = Numerators { list: &list, all };
+    let zero = combines_to_zero(qp, tree, way, row, cert, numerators)?;
+    let side = column_sum(qp, tree, way, row, cert, numerators, Column::Sides)?;
     if !zero {
         return Some(false);
     }

@@ -9,7 +9,7 @@ use Rattle.mpc_check.proofs.whole_sums.combines_to_zero.Goals as goal
 pub loop-unknown-preserved : goal.loop-unknown-preserved
 loop-unknown-preserved c =
     let s = hold_system c.args.qp.now (way_rows c.args.tree.now c.args.way.now) c.args.row.now in
-    columns_more (picked_rows s.rows c.args.cert.now) (weights c.args.cert.now) c.loop-unknown.unknown c.loop-unknown.zero c.stays_zero-zero.result c.args.all c.in_ok-sum.sum c.requires.denom.some c.loop-unknown.invariant c.in_ok-sum.ensures.fits c.in_ok-sum.ensures.value
+    columns_more (picked_rows s.rows c.args.cert.now) (weights c.args.cert.now) c.loop-unknown.unknown c.loop-unknown.zero c.stays_zero-zero.result c.args.numerators.all c.in_ok-sum.sum c.requires.denom.some c.loop-unknown.invariant c.in_ok-sum.ensures.fits c.in_ok-sum.ensures.value
     (subst (λ (z : ℤ). IsTrue c.stays_zero-zero.result ↔ (IsTrue c.loop-unknown.zero × (z ≡ pos 0))) (read_sum c.in_ok-sum.sum c.in_ok-sum.ensures.size) c.stays_zero-zero.ensures)
 
 pub returns-clause-value : goal.returns-clause-value
