@@ -31,7 +31,7 @@ const MANY_LAWS: usize = 60;
 const CELLS_A_THREAD: usize = 4;
 
 /// How many neighbouring pieces, open or not, a thread draws at once: what a search keeps of one cell serves for the next.
-const STRETCH: u64 = 8;
+const STRETCH: u64 = 4;
 
 /// How many open cells of the upper part there are for a thread in a round at least: one alone isn't worth its start.
 const DIVIDED_A_THREAD: usize = 2;
